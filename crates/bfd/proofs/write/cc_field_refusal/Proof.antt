@@ -1,0 +1,10 @@
+use Rattle.bfd.specs.Octets.{ccFieldRefusal}
+use borrow.Author.Needs.{needs}
+use Rattle.bfd.proofs.write.cc_field_refusal.Statement.{statement}
+use Rattle.bfd.proofs.write.cc_field_refusal.Tie as tie
+
+pub cc-field-refusal-spec : {M : Type 1} → statement M
+unfolding ccFieldRefusal
+cc-field-refusal-spec =
+    tie.close
+    (tie.spec (λ c κs. search needs) (λ c κs. search needs) (λ c κs. search needs) (λ c κs. search needs) (λ c. cc))

@@ -1,0 +1,42 @@
+-- What is refused in a BFD message, in the paper's order: 3 (under 4), 4, 5, 3 (under 28), 6, 3 (Length past the end).
+-- Assumes nothing.
+use Prim.Native.Nat.{ℕ, _+_, _/_, _%_}
+use mathlib.Core.List.{List}
+use lib.ListN.{length, getD}
+use lib.Dec.{ltb, eqb}
+use Rattle.octets.specs.Numbers.{numberAt}
+use Rattle.octets.specs.Choice.{need, bar, orElse, Answer, answer}
+use Rattle.gach.specs.Header.{ccChannel, channelRefusal}
+use Rattle.bfd.specs.declared.Packet.{Packet}
+use Rattle.bfd.specs.Packet.{versionOctet, flagOctet, lengthOf, packetOf}
+
+-- refusal 6 in CC and CV, in the order of octets: version not 1, A or M set, multiplier 0, Length below 24, My Discriminator 0
+unfoldable pub ruleRefusal : ℕ → ℕ → ℕ → ℕ → ℕ → ℕ
+ruleRefusal version flags multiplier len my =
+    need (eqb (version / 32) 1) 6
+    (need (eqb (flags / 4 % 2) 0) 6
+    (need (eqb (flags % 2) 0) 6
+    (bar (eqb multiplier 0) 6
+    (bar (ltb len 24) 6
+    (bar (eqb my 0) 6 0)))))
+
+-- refusal 6 in CC only: Your Discriminator 0 with state INIT (2) or UP (3)
+unfoldable pub yourRefusal : ℕ → ℕ → ℕ
+yourRefusal state your = need (eqb your 0) 0 (need (ltb state 2) 6 0)
+
+-- what a message on either BFD channel is refused for on its first 28 octets
+unfoldable pub controlRefusal : ℕ → List ℕ → ℕ
+controlRefusal channel m =
+    orElse (channelRefusal channel m)
+    (bar (ltb (length m) 28) 3
+    (ruleRefusal (versionOctet m) (flagOctet m) (getD m 6 0) (lengthOf m) (numberAt 4 m 8)))
+
+unfoldable pub ccRefusal : List ℕ → ℕ
+ccRefusal m =
+    orElse (controlRefusal ccChannel m)
+    (orElse (yourRefusal (flagOctet m / 64) (numberAt 4 m 12))
+    (bar (ltb (length m) (4 + lengthOf m)) 3 0))
+
+-- what reading a CC says; octets behind Length are padding
+unfoldable pub readCc : List ℕ → Answer Packet
+readCc m = answer (ccRefusal m) (packetOf m)
