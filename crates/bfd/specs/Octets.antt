@@ -1,12 +1,15 @@
 -- A BFD control packet as it is written: plain, Length 24, A and M clear, nothing behind it but what the kind adds.
 -- Assumes nothing.
-use Prim.Native.Nat.{ℕ, _+_, _*_, _%_}
+use mathlib.Core.Path.{_≡_}
+use Prim.Native.Nat.{ℕ, _+_, _*_, _%_, _<_}
 use mathlib.Core.List.{List, [], _∷_}
+use lib.ListN.{length, getD}
 use lib.Dec.{ltb, eqb}
 use Rattle.octets.specs.Numbers.{octetsOf}
 use Rattle.octets.specs.Choice.{need, bar, orElse, bitOf}
 use Rattle.gach.specs.Header.{ccChannel, headerOctets}
 use Rattle.bfd.specs.declared.Packet.{Packet}
+use Rattle.bfd.specs.Packet.{lengthOf}
 use Rattle.bfd.specs.Reception.{yourRefusal}
 
 -- state and flags in one octet
@@ -34,3 +37,10 @@ fieldRefusal p =
 -- refusal 10 for a CC: also a Your Discriminator that its reader would refuse
 unfoldable pub ccFieldRefusal : Packet → ℕ
 ccFieldRefusal p = orElse (fieldRefusal p) (need (eqb (yourRefusal (p .state) (p .your)) 0) 10 0)
+
+-- a plain CC: no padding, the octet that is not looked at 0, Length 24 (A and M are clear in every accepted message)
+pub record Plain (m : List ℕ) : Type 0 where
+  pub octets : (i : ℕ) → getD m i 0 < 256
+  pub size : length m ≡ 28
+  pub unread : getD m 1 0 ≡ 0
+  pub len : lengthOf m ≡ 24

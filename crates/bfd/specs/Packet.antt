@@ -1,6 +1,6 @@
 -- The fields of a BFD control packet behind the G-ACh header (RFC 5880, 4.1).
 -- Assumes nothing.
-use Prim.Native.Nat.{ℕ, _/_, _%_}
+use Prim.Native.Nat.{ℕ, _/_, _%_, _^_, _<_}
 use mathlib.Core.List.{List}
 use lib.ListN.{getD}
 use lib.Dec.{eqb}
@@ -43,3 +43,12 @@ packetOf m =
 abbrev pub said : CcAnswer → Answer Packet
 said (Read p) = accepted p
 said (Refused n) = refused n
+
+-- the fields that are octets and 32-bit numbers in the code, as its types have them
+pub record Sized (p : Packet) : Type 0 where
+  pub multiplier : p .multiplier < 256
+  pub my : p .my < 256 ^ 4
+  pub your : p .your < 256 ^ 4
+  pub transmit : p .transmit < 256 ^ 4
+  pub receive : p .receive < 256 ^ 4
+  pub echo : p .echo < 256 ^ 4

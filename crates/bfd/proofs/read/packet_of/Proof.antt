@@ -8,4 +8,4 @@ unfolding packetOf
 packet-of-spec =
     tie.close
     (tie.spec (λ c κs. search needs) (λ c κs. search needs) (λ c κs. search needs) (λ c κs. search needs)
-    (λ c κs. search needs) (λ c κs. search needs) (λ c κs. search needs) (λ c κs. search needs) (λ c. cc))
+    (λ c κs. search needs) (λ c κs. search needs) (λ c κs. search needs) (λ c κs. search needs) (λ c. rw (c .get-u325 .ensures, c .before .get-u324 .ensures, c .before .before .get-u323 .ensures, c .before .before .before .get-u322 .ensures, c .before .before .before .before .get-u32 .ensures, c .before .before .before .before .before .get-u83 .ensures, c .before .before .before .before .before .before .get-u82 .ensures, c .before .before .before .before .before .before .before .get-u8 .ensures)))

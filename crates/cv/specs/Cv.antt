@@ -1,0 +1,61 @@
+-- The connectivity verification message: a BFD control packet, and right after Length octets the source MEP-ID.
+-- Assumes nothing.
+use mathlib.Core.Path.{_≡_}
+use Prim.Native.Nat.{ℕ, _+_, _<_}
+use mathlib.Core.List.{List, []}
+use lib.ListN.{length, getD, take, drop}
+use lib.Dec.{ltb, eqb}
+use Rattle.octets.specs.Numbers.{numberAt}
+use Rattle.octets.specs.Choice.{pick, need, bar, orElse, Answer, accepted, refused, answer}
+use Rattle.gach.specs.Header.{cvChannel}
+use Rattle.bfd.specs.declared.Packet.{Packet}
+use Rattle.bfd.specs.Packet.{lengthOf, packetOf}
+use Rattle.bfd.specs.Reception.{controlRefusal}
+use Rattle.bfd.specs.Octets.{packetOctets, fieldRefusal}
+use Rattle.cv.specs.declared.MepId.{MepId}
+use Rattle.cv.specs.declared.Verification.{Verification}
+use Rattle.cv.specs.declared.CvAnswer.{CvAnswer}
+use Rattle.cv.specs.declared.CvAnswer.the-variants.{Read, Refused}
+use Rattle.cv.specs.MepId.{mepIdAt, mepOctets, mepRefusal}
+
+-- where the MEP-ID starts
+abbrev pub mepAt : List ℕ → ℕ
+mepAt m = 4 + lengthOf m
+
+-- the order for a CV: the packet's refusals on its first 28 octets, then 3 until the whole MEP-ID is there, then 7
+unfoldable pub cvRefusal : List ℕ → ℕ
+cvRefusal m =
+    orElse (controlRefusal cvChannel m)
+    (bar (ltb (length m) (mepAt m + 16)) 3
+    (mepRefusal (numberAt 2 m (mepAt m)) (numberAt 2 m (mepAt m + 2))))
+
+abbrev pub verificationOf : List ℕ → Verification
+verificationOf m = record { packet = packetOf m; mep = mepIdAt m (mepAt m) }
+
+-- the paper's number and values for each case of the reader's answer
+abbrev pub said : CvAnswer → Answer Verification
+said (Read v) = accepted v
+said (Refused n) = refused n
+
+-- what reading a CV says
+unfoldable pub readCv : List ℕ → Answer Verification
+readCv m = answer (cvRefusal m) (verificationOf m)
+
+-- the stretch that is handed back: the MEP-ID of an accepted message, type to end; of a refused one the empty part
+unfoldable pub mepPart : List ℕ → List ℕ
+mepPart m = pick (eqb (cvRefusal m) 0) (take 16 (drop (mepAt m) m)) []
+
+-- the 44 octets of a plain CV
+abbrev pub cvOctets : Packet → MepId → List ℕ
+cvOctets p id = packetOctets cvChannel p (mepOctets id [])
+
+-- refusal 10: a field out of its range, or one that the reader would refuse; Your 0 in INIT or UP is no fault of a CV
+unfoldable pub cvFieldRefusal : Packet → MepId → ℕ
+cvFieldRefusal p id = orElse (fieldRefusal p) (need (ltb (id .kind) 2) 10 0)
+
+-- a plain CV: no padding, the octet that is not looked at 0, Length 24
+pub record Plain (m : List ℕ) : Type 0 where
+  pub octets : (i : ℕ) → getD m i 0 < 256
+  pub size : length m ≡ 44
+  pub unread : getD m 1 0 ≡ 0
+  pub len : lengthOf m ≡ 24

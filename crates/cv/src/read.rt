@@ -1,0 +1,68 @@
+// Reading: the refusals in the paper's order, the fields, and the caller's own stretch.
+use crate::CvAnswer;
+use crate::Verification;
+use crate::mep_id::mep_id_at;
+use crate::mep_id::mep_refusal;
+use gach::CV_CHANNEL;
+use octets::get_u16;
+use octets::get_u8;
+ghost use mathlib.Core.Path.{_≡_};
+ghost use Prim.Native.Nat.{_+_};
+ghost use lib.ListN.{getD};
+ghost use Rattle.octets.specs.Choice.{answer};
+ghost use Rattle.cv.specs.Cv.{mepAt, cvRefusal, verificationOf, said, readCv, mepPart};
+
+// Where the MEP-ID starts: right after Length octets.
+fn mep_at(m: &[u8]) -> u16
+    ensures { λ r. ⌜ r ≡ mepAt (now (m .entry)) ⌝ }
+{
+    4 + get_u8(m, 7) as u16
+}
+
+// What a CV is refused for; 0 where it is accepted.
+pub fn cv_refusal(m: &[u8]) -> u32
+    ensures { λ r. ⌜ r ≡ cvRefusal (now (m .entry)) ⌝ }
+{
+    let control = bfd::control_refusal(m, CV_CHANNEL);
+    let at = mep_at(m) as usize;
+    let mep = mep_refusal(get_u16(m, at), get_u16(m, at + 2));
+    octets::or_else(control, octets::refuse_if(m.len() < at + 16, 3, mep))
+}
+
+fn verification(m: &[u8]) -> Verification
+    ensures { λ r. ⌜ r ≡ verificationOf (now (m .entry)) ⌝ }
+{
+    let p = bfd::packet_of(m);
+    let id = mep_id_at(m, mep_at(m));
+    Verification { packet: p, mep: id }
+}
+
+fn cv_answer(refusal: u32, v: Verification) -> CvAnswer
+    ensures { λ r. ⌜ said r ≡ answer refusal v ⌝ }
+{
+    if refusal == 0 {
+        CvAnswer::Read(v)
+    } else {
+        CvAnswer::Refused(refusal)
+    }
+}
+
+// Reads a CV: its packet and MEP-ID, or the first refusal.
+pub fn read_cv(m: &[u8]) -> CvAnswer
+    ensures { λ r. ⌜ said r ≡ readCv (now (m .entry)) ⌝ }
+{
+    cv_answer(cv_refusal(m), verification(m))
+}
+
+// The MEP-ID of an accepted message as a part of it, type to end; of a refused one the empty part.
+pub fn mep_part(m: &[u8]) -> &[u8]
+    ensures { λ r. ⌜ now r ≡ mepPart (now (m .entry)) ⌝ }
+{
+    let refusal = cv_refusal(m);
+    let at = mep_at(m) as usize;
+    if refusal == 0 {
+        &m[at..at + 16]
+    } else {
+        &m[..0]
+    }
+}
