@@ -29,9 +29,19 @@ rebuilt : (p : Packet) {diagnostic′ state′ multiplier′ my′ your′ trans
     → diagnostic′ ≡ p .diagnostic → state′ ≡ p .state → poll′ ≡ p .poll → fin′ ≡ p .fin → independent′ ≡ p .independent → demand′ ≡ p .demand
     → multiplier′ ≡ p .multiplier → my′ ≡ p .my → your′ ≡ p .your → transmit′ ≡ p .transmit → receive′ ≡ p .receive → echo′ ≡ p .echo
     → record {
-        diagnostic = diagnostic′; state = state′; poll = poll′; fin = fin′; independent = independent′; demand = demand′;
-        multiplier = multiplier′; my = my′; your = your′; transmit = transmit′; receive = receive′; echo = echo′
-      } ≡ p
+      diagnostic = diagnostic′;
+      state = state′;
+      poll = poll′;
+      fin = fin′;
+      independent = independent′;
+      demand = demand′;
+      multiplier = multiplier′;
+      my = my′;
+      your = your′;
+      transmit = transmit′;
+      receive = receive′;
+      echo = echo′;
+    } ≡ p
 rebuilt p e0 e1 e2 e3 e4 e5 e6 e7 e8 e9 e10 e11 = rw (e0, e1, e2, e3, e4, e5, e6, e7, e8, e9, e10, e11)
 
 -- the octet of state and flags, read back bit by bit
@@ -51,8 +61,13 @@ flags-say p h =
     let b3 = bit-small (p .independent) in
     let b4 = bit-small (p .demand) in
     record {
-      state = omega arith; poll = omega arith; fin = omega arith; independent = omega arith; demand = omega arith;
-      authentication = omega arith; multipoint = omega arith
+      state = omega arith;
+      poll = omega arith;
+      fin = omega arith;
+      independent = omega arith;
+      demand = omega arith;
+      authentication = omega arith;
+      multipoint = omega arith;
     }
 
 module _ (channel : ℕ) (p : Packet) (rest : List ℕ) (f : FieldsSay p) (s : Sized p) where
@@ -158,8 +173,18 @@ written-read m plain e =
 -- edge k: 10000022 20400318 00000011 00000000 000f4240 000f4240 00000000
 pub edge-k : ccOctets
     (record {
-      diagnostic = 0; state = 1; poll = false; fin = false; independent = false; demand = false;
-      multiplier = 3; my = 17; your = 0; transmit = 1000000; receive = 1000000; echo = 0
+      diagnostic = 0;
+      state = 1;
+      poll = false;
+      fin = false;
+      independent = false;
+      demand = false;
+      multiplier = 3;
+      my = 17;
+      your = 0;
+      transmit = 1000000;
+      receive = 1000000;
+      echo = 0;
     })
     ≡ 0x10 ∷ 0x00 ∷ 0x00 ∷ 0x22 ∷ 0x20 ∷ 0x40 ∷ 0x03 ∷ 0x18 ∷ 0x00 ∷ 0x00 ∷ 0x00 ∷ 0x11 ∷ 0x00 ∷ 0x00 ∷ 0x00 ∷ 0x00
     ∷ 0x00 ∷ 0x0f ∷ 0x42 ∷ 0x40 ∷ 0x00 ∷ 0x0f ∷ 0x42 ∷ 0x40 ∷ 0x00 ∷ 0x00 ∷ 0x00 ∷ 0x00 ∷ []

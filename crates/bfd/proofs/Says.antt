@@ -50,8 +50,16 @@ control-says own m e =
 pub control-passes : (own : ℕ) (m : List ℕ) → ControlSays own m → controlRefusal own m ≡ 0
 unfolding controlRefusal ruleRefusal
 control-passes own m s =
-    rw (channel-passes own m (s .header), le-ltb (length m) 28 (s .long), eq-eqb _ _ (s .version), eq-eqb _ _ (s .unauthenticated), eq-eqb _ _ (s .pointToPoint),
-    ne-eqb _ _ (s .multiplier), le-ltb (lengthOf m) 24 (s .whole), ne-eqb _ _ (s .my))
+    rw (
+      channel-passes own m (s .header),
+      le-ltb (length m) 28 (s .long),
+      eq-eqb _ _ (s .version),
+      eq-eqb _ _ (s .unauthenticated),
+      eq-eqb _ _ (s .pointToPoint),
+      ne-eqb _ _ (s .multiplier),
+      le-ltb (lengthOf m) 24 (s .whole),
+      ne-eqb _ _ (s .my),
+    )
 
 -- an accepted CC
 pub record CcSays (m : List ℕ) : Type 0 where

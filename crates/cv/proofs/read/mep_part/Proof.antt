@@ -1,62 +1,32 @@
 use borrow.Author.Needs.{needs}
+use mathlib.Core.Path.{_≡_, sym, _∙_}
+use Prim.Native.Nat.{_+_, _-_}
+use native.Mathlib.Omega.{arith}
+use lib.ListN.{take, drop}
+use Rattle.cv.specs.Cv.{mepAt, cvRefusal, mepPart}
+use Rattle.cv.proofs.Says.{cv-says, part-accepted, part-refused}
 use Rattle.cv.proofs.read.mep_part.Statement.{statement}
 use Rattle.cv.proofs.read.mep_part.Tie as tie
-use Rattle.cv.proofs.read.mep_part.Reads as reads
-use Rattle.cv.proofs.read.mep_part.Lts as lts
-use Rattle.cv.proofs.read.cv_refusal.Reads as cv-refusal-reads
-use Rattle.cv.proofs.read.mep_at.Reads as mep-at-reads
 
--- src/read.rt:61:9
-cv-refusal-requires : tie.Need-cv-refusal-requires
-cv-refusal-requires c κs = search needs
-
--- src/read.rt:62:14
-mep-at-requires : tie.Need-mep-at-requires
-mep-at-requires c κs = search needs
-
--- src/read.rt:62:14
-cast-at : tie.Need-cast-at
-cast-at c = search needs
-
--- src/read.rt:64:16
-add-result : tie.Need-add-result
-add-result c = search needs
-
--- src/read.rt:64:9
-sub-result : tie.Need-sub-result
-sub-result c = search needs
-
--- src/read.rt:64:9
-part-result-start : tie.Need-part-result-start
-part-result-start c = search needs
-
--- src/read.rt:64:9
 part-result-end : tie.Need-part-result-end
-part-result-end c = ?
+part-result-end c = let m = c .before .before .before .before .args .m .now in
+    let e : cvRefusal m ≡ 0 = sym (c .before .before .cv-refusal .ensures) ∙ c .if1 .taken in
+    omega (arith, cv-says m e .room, c .before .mep-at .ensures)
 
--- src/read.rt:66:9
-slice-aggregate-result : tie.Need-slice-aggregate-result
-slice-aggregate-result c = search needs
-
--- src/read.rt:58:1
 returns : tie.Need-returns
-returns c = ?
+returns c = let m = c .before .before .before .before .before .args .m .now in
+    let at = c .before .before .mep-at .result in
+    let e : cvRefusal m ≡ 0 = sym (c .before .before .before .cv-refusal .ensures) ∙ c .before .if1 .taken in
+    let size : at + 16 - at ≡ 16 = omega arith in
+    let p : mepPart m ≡ take 16 (drop (mepAt m) m) = part-accepted m e in
+    rw (size, p, c .before .before .mep-at .ensures)
 
--- src/read.rt:58:1
 returns-2 : tie.Need-returns-2
-returns-2 c = ?
+returns-2 c = let m = c .before .before .before .before .before .args .m .now in
+    sym (part-refused m (λ z. c .before .if1 .left (c .before .before .before .cv-refusal .ensures ∙ z)))
 
 pub mep-part-spec : {M : Type 1} → statement M
 mep-part-spec =
     tie.close
-    (tie.spec
-    cv-refusal-requires
-    mep-at-requires
-    cast-at
-    add-result
-    sub-result
-    part-result-start
-    part-result-end
-    slice-aggregate-result
-    returns
-    returns-2)
+    (tie.spec (λ c κs. search needs) (λ c κs. search needs) (λ c. search needs) (λ c. search needs) (λ c. search needs)
+    (λ c. search needs) part-result-end (λ c. search needs) returns returns-2)
