@@ -115,17 +115,23 @@ read-written p pad s e =
     } in
     rw (cc-passes m says, fields-back ccChannel p pad (f .0) s)
 
--- refusal 10 is for no other fields: what is in range and would be read is written
+-- refusal 10 is for no other fields: a packet in range that would be read is written
+pub packet-exactly : (channel : ℕ) (p : Packet) (rest : List ℕ) → Sized p → p .diagnostic < 32 → p .state < 4
+    → ControlSays channel (packetOctets channel p rest) → fieldRefusal p ≡ 0
+unfolding packetOctets fieldRefusal
+packet-exactly channel p rest s d h says =
+    let my : numberAt 4 (packetOctets channel p rest) 8 ≡ p .my = read-of 4 (p .my) [] (s .my) in
+    rw (lt-ltb _ _ d, lt-ltb _ _ h, ne-eqb _ _ (says .multiplier), ne-eqb (p .my) 0 (λ z. says .my (my ∙ z)))
+
 pub refused-exactly : (p : Packet) → Sized p → p .diagnostic < 32 → p .state < 4 → ccRefusal (ccOctets p) ≡ 0 → ccFieldRefusal p ≡ 0
-unfolding packetOctets fieldRefusal ccFieldRefusal
+unfolding packetOctets ccFieldRefusal
 refused-exactly p s d h e =
     let m = ccOctets p in
     let says = cc-says m e in
     let x = flags-say p h in
-    let my : numberAt 4 m 8 ≡ p .my = read-of 4 (p .my) [] (s .my) in
     let your : numberAt 4 m 12 ≡ p .your = read-of 4 (p .your) [] (s .your) in
     let y : yourRefusal (p .state) (p .your) ≡ 0 = rw (x .state, your) at (says .your) in
-    rw (lt-ltb _ _ d, lt-ltb _ _ h, ne-eqb _ _ (says .control .multiplier), ne-eqb (p .my) 0 (λ z. says .control .my (my ∙ z)), y)
+    rw (packet-exactly ccChannel p [] s d h (says .control), y)
 
 sum : (x x2 x4 x8 x16 x32 x64 p f c a d m : ℕ) → x ≡ x2 * 2 + m → x2 ≡ x4 * 2 + d → x4 ≡ x8 * 2 + a → x8 ≡ x16 * 2 + c
     → x16 ≡ x32 * 2 + f → x32 ≡ x64 * 2 + p → a ≡ 0 → m ≡ 0 → x64 * 64 + p * 32 + f * 16 + c * 8 + d * 2 ≡ x

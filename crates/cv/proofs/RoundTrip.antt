@@ -5,7 +5,7 @@ use mathlib.Core.List.{List, [], _++_}
 use Prim.Native.Nat.{ℕ, _+_, _≤_, _<_}
 use native.Mathlib.Omega.{arith}
 use lib.ListN.{length, getD}
-use borrow.Author.Tests.{ltb-true}
+use borrow.Author.Tests.{ltb-true, lt-ltb}
 use Rattle.octets.specs.Numbers.{numberAt, octetsOf}
 use Rattle.octets.specs.Choice.{accepted}
 use Rattle.octets.proofs.Numbers.{read-of, run, of-at, run-all}
@@ -15,7 +15,7 @@ use Rattle.bfd.specs.declared.Packet.{Packet}
 use Rattle.bfd.specs.Packet.{packetOf, Sized}
 use Rattle.bfd.specs.Octets.{packetOctets}
 use Rattle.bfd.proofs.Says.{FieldsSay, fields-say}
-use Rattle.bfd.proofs.RoundTrip.{fields-back, written-says, octets-again}
+use Rattle.bfd.proofs.RoundTrip.{fields-back, written-says, packet-exactly, octets-again}
 use Rattle.cv.specs.declared.MepId.{MepId}
 use Rattle.cv.specs.MepId.{mepIdAt, mepOctets, MepSized}
 use Rattle.cv.specs.Cv.{mepAt, cvRefusal, readCv, verificationOf, cvOctets, cvFieldRefusal, Plain}
@@ -55,6 +55,16 @@ read-written p id pad s t e =
       size = refl;
     } in
     rw (cv-passes m says, fields-back cvChannel p (mepOctets id pad) (f .0) s, mep-back p id pad t)
+
+-- refusal 10 is for no other fields: what is in range and would be read is written
+pub refused-exactly : (p : Packet) (id : MepId) → Sized p → MepSized id → p .diagnostic < 32 → p .state < 4 → cvRefusal (cvOctets p id) ≡ 0 → cvFieldRefusal p id ≡ 0
+unfolding packetOctets mepOctets cvFieldRefusal
+refused-exactly p id s t d h e =
+    let m = cvOctets p id in
+    let says = cv-says m e in
+    let kind : numberAt 2 m 28 ≡ id .kind = read-of 2 (id .kind) [] (t .kind) in
+    let k : id .kind < 2 = rw kind at (says .kind) in
+    rw (packet-exactly cvChannel p (mepOctets id []) s d h (says .control), lt-ltb (id .kind) 2 k)
 
 -- the octets of a MEP-ID that was read are the message's own
 mep-again : (m : List ℕ) → ((i : ℕ) → getD m i 0 < 256) → numberAt 2 m 30 ≡ 12 → mepOctets (mepIdAt m 28) [] ≡ run 16 m 28 []
