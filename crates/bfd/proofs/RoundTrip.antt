@@ -7,11 +7,11 @@ use Prim.Native.Nat.{ℕ, _+_, _*_, _/_, _%_, _^_, _≤_, _<_}
 use native.Mathlib.Omega.{arith}
 use lib.ListN.{length, getD}
 use lib.Dec.{eqb}
-use borrow.Author.Tests.{eqb-true, eqb-false, lt-ltb, ne-eqb}
+use borrow.Author.Tests.{lt-ltb, ne-eqb}
 use Rattle.octets.specs.Numbers.{numberAt, octetsOf}
 use Rattle.octets.specs.Choice.{bitOf, accepted}
 use Rattle.octets.proofs.Numbers.{read-of, run, of-at, run-all}
-use Rattle.octets.proofs.Chain.{bit-back}
+use Rattle.octets.proofs.Chain.{bit-back, bit-again}
 use Rattle.gach.specs.Header.{ccChannel, channelOf}
 use Rattle.gach.proofs.Says.{ChannelSays}
 use Rattle.bfd.specs.declared.Packet.{Packet}
@@ -137,20 +137,12 @@ sum : (x x2 x4 x8 x16 x32 x64 p f c a d m : ℕ) → x ≡ x2 * 2 + m → x2 ≡
     → x16 ≡ x32 * 2 + f → x32 ≡ x64 * 2 + p → a ≡ 0 → m ≡ 0 → x64 * 64 + p * 32 + f * 16 + c * 8 + d * 2 ≡ x
 sum x x2 x4 x8 x16 x32 x64 p f c a d m e0 e1 e2 e3 e4 e5 e6 e7 = omega arith
 
--- a bit as a mark and as a bit again
-bit-again : (x : ℕ) → bitOf (eqb (x % 2) 1) ≡ x % 2
-bit-again x = go (eqb (x % 2) 1) refl
-  where
-    go : (b : Bool) → eqb (x % 2) 1 ≡ b → bitOf b ≡ x % 2
-    go true e = sym (eqb-true (x % 2) 1 e)
-    go false e = let h = eqb-false (x % 2) 1 e in omega arith
-
 -- the octet of state and flags, written from what was read
 flags-again : (x : ℕ) → x < 256 → x / 4 % 2 ≡ 0 → x % 2 ≡ 0
     → x / 64 % 4 * 64 + bitOf (eqb (x / 32 % 2) 1) * 32 + bitOf (eqb (x / 16 % 2) 1) * 16 + bitOf (eqb (x / 8 % 2) 1) * 8 + bitOf (eqb (x / 2 % 2) 1) * 2 ≡ x
 flags-again x b a m =
     let s : x / 64 % 4 ≡ x / 64 = omega arith in
-    rw (s, bit-again (x / 32), bit-again (x / 16), bit-again (x / 8), bit-again (x / 2))
+    rw (s, bit-again (x / 32 % 2) (omega arith), bit-again (x / 16 % 2) (omega arith), bit-again (x / 8 % 2) (omega arith), bit-again (x / 2 % 2) (omega arith))
     (sum x (x / 2) (x / 4) (x / 8) (x / 16) (x / 32) (x / 64) (x / 32 % 2) (x / 16 % 2) (x / 8 % 2) (x / 4 % 2) (x / 2 % 2) (x % 2)
     (omega arith) (omega arith) (omega arith) (omega arith) (omega arith) (omega arith) a m)
 

@@ -22,7 +22,7 @@ use Rattle.cv.specs.Cv.{mepAt, cvRefusal, readCv, verificationOf, cvOcte
 use Rattle.cv.proofs.Says.{CvSays, cv-says, cv-passes}
 
 -- a MEP-ID from its numbers
-rebuilt : (id : MepId) {kind′ global′ node′ local′ : ℕ} → kind′ ≡ id .kind → global′ ≡ id .global → node′ ≡ id .node → local′ ≡ id .local
+pub rebuilt : (id : MepId) {kind′ global′ node′ local′ : ℕ} → kind′ ≡ id .kind → global′ ≡ id .global → node′ ≡ id .node → local′ ≡ id .local
     → record { kind = kind′; global = global′; node = node′; local = local′ } ≡ id
 rebuilt id a b c d = rw (a, b, c, d)
 

@@ -1,12 +1,13 @@
 -- The connectivity verification message: a BFD control packet, and right after Length octets the source MEP-ID.
 -- Assumes nothing.
+use mathlib.Core.Bool.{cond}
 use mathlib.Core.Path.{_≡_}
 use Prim.Native.Nat.{ℕ, _+_, _<_}
 use mathlib.Core.List.{List, []}
 use lib.ListN.{length, getD, take, drop}
 use lib.Dec.{ltb, eqb}
 use Rattle.octets.specs.Numbers.{numberAt}
-use Rattle.octets.specs.Choice.{pick, need, bar, orElse, Answer, accepted, refused, answer}
+use Rattle.octets.specs.Choice.{need, bar, orElse, Answer, accepted, refused, answer}
 use Rattle.gach.specs.Header.{cvChannel}
 use Rattle.bfd.specs.declared.Packet.{Packet}
 use Rattle.bfd.specs.Packet.{lengthOf, packetOf}
@@ -43,7 +44,7 @@ readCv m = answer (cvRefusal m) (verificationOf m)
 
 -- the stretch that is handed back: the MEP-ID of an accepted message, type to end; of a refused one the empty part
 unfoldable pub mepPart : List ℕ → List ℕ
-mepPart m = pick (eqb (cvRefusal m) 0) (take 16 (drop (mepAt m) m)) []
+mepPart m = cond (eqb (cvRefusal m) 0) (take 16 (drop (mepAt m) m)) []
 
 -- the 44 octets of a plain CV
 abbrev pub cvOctets : Packet → MepId → List ℕ

@@ -2,6 +2,7 @@
 -- Assumes nothing.
 use Prim.Native.Nat.{ℕ, _+_, _^_, _<_}
 use mathlib.Core.List.{List}
+use mathlib.Core.Bool.{Bool, _&&_}
 use lib.Dec.{ltb, eqb}
 use Rattle.octets.specs.Numbers.{numberAt, octetsOf}
 use Rattle.octets.specs.Choice.{need}
@@ -16,6 +17,10 @@ mepIdAt s at =
 -- its 16 octets, type to end, before the octets of rest
 unfoldable pub mepOctets : MepId → List ℕ → List ℕ
 mepOctets id rest = octetsOf 2 (id .kind) (octetsOf 2 12 (octetsOf 4 (id .global) (octetsOf 4 (id .node) (octetsOf 4 (id .local) rest))))
+
+-- one MEP-ID: the same type and the same value
+unfoldable pub sameMepId : MepId → MepId → Bool
+sameMepId a b = eqb (a .kind) (b .kind) && eqb (a .global) (b .global) && eqb (a .node) (b .node) && eqb (a .local) (b .local)
 
 -- refusal 7: type not 0 or 1, or length not 12
 unfoldable pub mepRefusal : ℕ → ℕ → ℕ

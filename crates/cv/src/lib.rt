@@ -5,6 +5,7 @@ mod write;
 
 pub use mep_id::mep_id_at;
 pub use mep_id::mep_octets;
+pub use mep_id::same_mep_id;
 pub use read::cv_refusal;
 pub use read::mep_part;
 pub use read::read_cv;
@@ -14,6 +15,7 @@ pub use write::write_cv;
 
 // A maintenance end point: kind 0 is a Section (Global_ID, Node, Interface), 1 an LSP (Global_ID,
 // Node, Tunnel and LSP, 16 bits each, held as one number).
+#[repr(C)]
 pub struct MepId {
     pub kind: u16,
     pub global: u32,

@@ -4,7 +4,7 @@ use octets::get_u16;
 use octets::get_u32;
 ghost use mathlib.Core.Path.{_≡_};
 ghost use mathlib.Core.List.{[]};
-ghost use Rattle.cv.specs.MepId.{mepIdAt, mepOctets, mepRefusal};
+ghost use Rattle.cv.specs.MepId.{mepIdAt, mepOctets, sameMepId, mepRefusal};
 
 // The MEP-ID from a place of a slice, in range or not; what lies past the end reads as 0.
 pub fn mep_id_at(s: &[u8], at: u16) -> MepId
@@ -41,6 +41,22 @@ pub fn mep_octets(id: MepId) -> [u8; 16]
         (id.local / 256 % 256) as u8,
         (id.local % 256) as u8,
     ]
+}
+
+// The same type and value.
+pub fn same_mep_id(a: MepId, b: MepId) -> bool
+    ensures { λ r. ⌜ r ≡ sameMepId a b ⌝ }
+{
+    if a.kind != b.kind {
+        return false;
+    }
+    if a.global != b.global {
+        return false;
+    }
+    if a.node != b.node {
+        return false;
+    }
+    a.local == b.local
 }
 
 // 7 for a type that is not 0 or 1, or a length that is not 12.

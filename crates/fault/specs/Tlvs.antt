@@ -1,0 +1,112 @@
+-- The TLVs of a fault message (RFC 6427): from octet 9 on, each a one-octet type, a one-octet length and a value.
+-- Type 1 is IF_ID, of 8 octets, type 2 is Global_ID, of 4; other types are passed over. What is wrong with them is refusal 8.
+-- Assumes nothing.
+use Prim.Native.Nat.{ℕ, zero, suc, _+_}
+use mathlib.Core.List.{List}
+use mathlib.Core.Bool.{Bool, true, false, cond}
+use lib.ListN.{getD}
+use lib.Dec.{ltb, eqb}
+use Rattle.octets.specs.Numbers.{numberAt}
+use Rattle.octets.specs.Choice.{need, bar}
+use Rattle.fault.specs.declared.tlv.Tlvs.{Tlvs}
+
+-- an IF_ID or a Global_ID that is the second of its type
+unfoldable pub repeated : Tlvs → ℕ → Bool
+repeated t kind = cond (eqb kind 1) (t .ifid) (cond (eqb kind 2) (t .globalid) false)
+
+-- IF_ID has length 8, Global_ID has length 4, another type has any
+unfoldable pub rightLength : ℕ → ℕ → Bool
+rightLength kind size = cond (eqb kind 1) (eqb size 8) (cond (eqb kind 2) (eqb size 4) true)
+
+-- a TLV at the place t .at, of the TLVs that end at `end`: one stray octet, too short for type and length; a repeated type 1 or 2;
+-- a value that goes past the end; a wrong length for type 1 or 2
+unfoldable pub tlvRefusal : Tlvs → ℕ → ℕ → ℕ → ℕ
+tlvRefusal t end kind size =
+    bar (ltb end (t .at + 2)) 8
+    (bar (repeated t kind) 8
+    (bar (ltb end (t .at + 2 + size)) 8
+    (need (rightLength kind size) 8 0)))
+
+-- the place t .at moved behind a TLV whose value has `size` octets
+abbrev pub passed : Tlvs → ℕ → Tlvs
+passed t size =
+    record {
+      at = t .at + 2 + size;
+      refusal = t .refusal;
+      ifid = t .ifid;
+      node = t .node;
+      interface = t .interface;
+      globalid = t .globalid;
+      global = t .global;
+    }
+
+-- an IF_ID with Node a and Interface b
+abbrev pub withIf : Tlvs → ℕ → ℕ → Tlvs
+withIf t a b =
+    record {
+      at = t .at;
+      refusal = t .refusal;
+      ifid = true;
+      node = a;
+      interface = b;
+      globalid = t .globalid;
+      global = t .global;
+    }
+
+-- a Global_ID a
+abbrev pub withGlobal : Tlvs → ℕ → Tlvs
+withGlobal t a =
+    record {
+      at = t .at;
+      refusal = t .refusal;
+      ifid = t .ifid;
+      node = t .node;
+      interface = t .interface;
+      globalid = true;
+      global = a;
+    }
+
+-- a TLV taken in; a and b are the first two 32-bit numbers of its value
+unfoldable pub withTlv : Tlvs → ℕ → ℕ → ℕ → ℕ → Tlvs
+withTlv t kind size a b =
+    cond (eqb kind 1) (withIf (passed t size) a b)
+    (cond (eqb kind 2) (withGlobal (passed t size) a)
+    (passed t size))
+
+-- the walk ends with the refusal n
+abbrev pub ended : ℕ → ℕ → Tlvs → Tlvs
+ended n end t =
+    record {
+      at = end;
+      refusal = n;
+      ifid = t .ifid;
+      node = t .node;
+      interface = t .interface;
+      globalid = t .globalid;
+      global = t .global;
+    }
+
+-- behind a TLV with the refusal n: on, or the end
+abbrev pub after : ℕ → ℕ → Tlvs → Tlvs → Tlvs
+after n end t next = cond (eqb n 0) next (ended n end t)
+
+-- one TLV of type `kind` and length `size`
+abbrev pub stepWith : Tlvs → ℕ → ℕ → ℕ → ℕ → ℕ → Tlvs
+stepWith t end kind size a b = after (tlvRefusal t end kind size) end t (withTlv t kind size a b)
+
+-- the TLV at the place t .at
+abbrev pub step : List ℕ → ℕ → Tlvs → Tlvs
+step m end t =
+    stepWith t end (getD m (t .at) 0) (getD m (t .at + 1) 0) (numberAt 4 m (t .at + 2)) (numberAt 4 m (t .at + 6))
+
+-- TLV after TLV while there are octets before the end, at most k of them
+abbrev pub walk : ℕ → List ℕ → ℕ → Tlvs → Tlvs
+walk zero m end t = t
+walk (suc k) m end t = cond (ltb (t .at) end) (walk k m end (step m end t)) t
+
+abbrev pub start : Tlvs
+start = record { at = 9; refusal = 0; ifid = false; node = 0; interface = 0; globalid = false; global = 0 }
+
+-- the TLVs from octet 9 to the end: no TLV is empty, so there are at most as many as octets
+unfoldable pub tlvsOf : List ℕ → ℕ → Tlvs
+tlvsOf m end = walk end m end start

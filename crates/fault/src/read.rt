@@ -1,0 +1,110 @@
+// The fault message, read.
+use crate::Fault;
+use crate::FaultAnswer;
+use crate::GlobalId;
+use crate::IfId;
+use crate::tlv::Tlvs;
+use crate::tlv::read_tlvs;
+use gach::FAULT_CHANNEL;
+use gach::channel_refusal;
+use octets::get_u8;
+use octets::need;
+use octets::or_else;
+use octets::refuse_if;
+ghost use mathlib.Core.Path.{_≡_};
+ghost use Rattle.octets.specs.Choice.{answer};
+ghost use Rattle.fault.specs.Message.{said, ifIdOf, globalIdOf, rangeRefusal, headRefusal, refusalWith, fieldsWith, faultRefusal, faultOf, readFault};
+
+// The refusal n for a type other than 1 and 2 or a refresh time other than 1 to 20 seconds.
+pub(crate) fn range_refusal(n: u32, kind: u8, refresh: u8) -> u32
+    ensures { λ r. ⌜ r ≡ rangeRefusal n kind refresh ⌝ }
+{
+    let time = need(1 <= refresh, n, need(refresh <= 20, n, 0));
+    need(1 <= kind, n, need(kind <= 2, n, time))
+}
+
+// 8 for a version, a type or a refresh time that the rules do not know.
+fn head_refusal(m: &[u8]) -> u32
+    ensures { λ r. ⌜ r ≡ headRefusal (now (m .entry)) ⌝ }
+{
+    let range = range_refusal(8, get_u8(m, 5), get_u8(m, 7));
+    need(get_u8(m, 4) / 16 == 1, 8, range)
+}
+
+fn refusal_with(m: &[u8], t: Tlvs) -> u32
+    ensures { λ r. ⌜ r ≡ refusalWith (now (m .entry)) t ⌝ }
+{
+    let end = 9 + get_u8(m, 8) as usize;
+    let tlvs = refuse_if(m.len() < end, 3, t.refusal);
+    let head = or_else(head_refusal(m), tlvs);
+    or_else(
+        channel_refusal(m, FAULT_CHANNEL),
+        refuse_if(m.len() < 9, 3, head),
+    )
+}
+
+fn if_id(present: bool, node: u32, interface: u32) -> IfId
+    ensures { λ r. ⌜ r ≡ ifIdOf present node interface ⌝ }
+{
+    if present {
+        IfId::Present(node, interface)
+    } else {
+        IfId::Absent
+    }
+}
+
+fn global_id(present: bool, global: u32) -> GlobalId
+    ensures { λ r. ⌜ r ≡ globalIdOf present global ⌝ }
+{
+    if present {
+        GlobalId::Present(global)
+    } else {
+        GlobalId::Absent
+    }
+}
+
+fn fields_with(m: &[u8], t: Tlvs) -> Fault
+    ensures { λ r. ⌜ r ≡ fieldsWith (now (m .entry)) t ⌝ }
+{
+    let flags = get_u8(m, 6);
+    Fault {
+        kind: get_u8(m, 5),
+        link: flags / 2 % 2 == 1,
+        removed: flags % 2 == 1,
+        refresh: get_u8(m, 7),
+        interface: if_id(t.ifid, t.node, t.interface),
+        global: global_id(t.globalid, t.global),
+    }
+}
+
+fn answer_of(n: u32, f: Fault) -> FaultAnswer
+    ensures { λ r. ⌜ said r ≡ answer n f ⌝ }
+{
+    if n == 0 {
+        FaultAnswer::Read(f)
+    } else {
+        FaultAnswer::Refused(n)
+    }
+}
+
+// The first refusal of a fault message, 0 where there is none.
+pub fn fault_refusal(m: &[u8]) -> u32
+    ensures { λ r. ⌜ r ≡ faultRefusal (now (m .entry)) ⌝ }
+{
+    refusal_with(m, read_tlvs(m, get_u8(m, 8)))
+}
+
+// The fields of a fault message, computed also where it is refused.
+pub fn fault_fields(m: &[u8]) -> Fault
+    ensures { λ r. ⌜ r ≡ faultOf (now (m .entry)) ⌝ }
+{
+    fields_with(m, read_tlvs(m, get_u8(m, 8)))
+}
+
+// A fault message, read: its fields, or the first refusal. Bytes behind it are not looked at.
+pub fn read_fault(m: &[u8]) -> FaultAnswer
+    ensures { λ r. ⌜ said r ≡ readFault (now (m .entry)) ⌝ }
+{
+    let t = read_tlvs(m, get_u8(m, 8));
+    answer_of(refusal_with(m, t), fields_with(m, t))
+}

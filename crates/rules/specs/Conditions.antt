@@ -1,0 +1,34 @@
+-- What tells one fault condition from another, and which ones a session follows.
+-- Assumes nothing.
+use Prim.Native.Nat.{ℕ}
+use mathlib.Core.Bool.{Bool, _&&_, _||_, cond}
+use lib.Dec.{eqb}
+use Rattle.fault.specs.declared.Fault.{Fault}
+use Rattle.fault.specs.declared.IfId.{IfId}
+use Rattle.fault.specs.declared.IfId.the-variants.{Absent, Present}
+use Rattle.rules.specs.declared.settings.Settings.{Settings}
+use Rattle.rules.specs.declared.condition.Key.{Key}
+use Rattle.rules.specs.declared.state.Input.{Input}
+use Rattle.rules.specs.declared.state.Input.the-variants.{LinkDown, LockReport}
+
+-- the key of a message: its type and its IF_ID
+abbrev pub keyWith : ℕ → IfId → Key
+keyWith kind Absent = record { node = 0; interface = 0; kind = kind; present = 0 }
+keyWith kind (Present node interface) = record { node = node; interface = interface; kind = kind; present = 1 }
+
+abbrev pub keyOf : Fault → Key
+keyOf f = keyWith (f .kind) (f .interface)
+
+-- one key: the same type, and IF_IDs that are both absent or equal
+unfoldable pub sameKey : Key → Key → Bool
+sameKey a b =
+    eqb (a .kind) (b .kind) && eqb (a .present) (b .present)
+    && (eqb (a .present) 0 || eqb (a .node) (b .node) && eqb (a .interface) (b .interface))
+
+-- a session follows AIS with L set if it follows link-down, and LKR if it follows lock
+unfoldable pub follows : Settings → ℕ → Bool → Bool
+follows s kind link = cond (eqb kind 1) (link && eqb (s .link) 1) (eqb (s .lock) 1)
+
+-- LDI or LKR
+abbrev pub faultInput : ℕ → Input
+faultInput kind = cond (eqb kind 1) LinkDown LockReport

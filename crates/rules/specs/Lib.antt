@@ -1,0 +1,6 @@
+pub mod Times
+pub mod States
+pub mod Settings
+pub mod Conditions
+pub mod Received
+pub mod Diagnostics

@@ -1,0 +1,33 @@
+-- What an opening gives, and the range of each setting.
+-- Assumes nothing.
+use Prim.Native.Nat.{ℕ}
+use mathlib.Core.Bool.{Bool, not, _&&_}
+use lib.Dec.{ltb, leb, eqb}
+use Rattle.cv.specs.declared.MepId.{MepId}
+use Rattle.rules.specs.declared.settings.Settings.{Settings}
+
+abbrev pub labelFits : ℕ → Bool
+labelFits label = leb 16 label && leb label 1048575
+
+-- a local discriminator is not 0
+abbrev pub discriminatorFits : ℕ → Bool
+discriminatorFits discriminator = not (eqb discriminator 0)
+
+abbrev pub periodFits : ℕ → Bool
+periodFits period = leb 1000 period && leb period 10000000
+
+-- MEP-ID type 0 or 1
+abbrev pub kindFits : ℕ → Bool
+kindFits kind = ltb kind 2
+
+-- a yes/no mark: 0 or 1
+abbrev pub markFits : ℕ → Bool
+markFits mark = ltb mark 2
+
+-- refusal 10 on open is for settings that do not fit
+unfoldable pub settingsFit : Settings → Bool
+settingsFit s =
+    labelFits (s .label) && discriminatorFits (s .discriminator) && periodFits (s .period) && kindFits (s .own .kind)
+    && kindFits (s .expected .kind) && markFits (s .link) && markFits (s .lock)
+
+-- refusal 10, or 0
