@@ -24,10 +24,12 @@ kindFits kind = ltb kind 2
 abbrev pub markFits : ℕ → Bool
 markFits mark = ltb mark 2
 
+abbrev pub circuitFits : ℕ → ℕ → ℕ → Bool
+circuitFits label discriminator period = labelFits label && discriminatorFits discriminator && periodFits period
+
+abbrev pub choicesFit : ℕ → ℕ → ℕ → ℕ → Bool
+choicesFit own expected link lock = kindFits own && kindFits expected && markFits link && markFits lock
+
 -- refusal 10 on open is for settings that do not fit
 unfoldable pub settingsFit : Settings → Bool
-settingsFit s =
-    labelFits (s .label) && discriminatorFits (s .discriminator) && periodFits (s .period) && kindFits (s .own .kind)
-    && kindFits (s .expected .kind) && markFits (s .link) && markFits (s .lock)
-
--- refusal 10, or 0
+settingsFit s = circuitFits (s .label) (s .discriminator) (s .period) && choicesFit (s .own .kind) (s .expected .kind) (s .link) (s .lock)

@@ -1,7 +1,7 @@
 // What an opening gives, in range or not.
 use cv::MepId;
 ghost use mathlib.Core.Path.{_≡_};
-ghost use Rattle.rules.specs.Settings.{labelFits, periodFits, settingsFit};
+ghost use Rattle.rules.specs.Settings.{circuitFits, choicesFit, settingsFit};
 
 // Numbers alone, so that a record that holds them can be lent by any caller. `link` and `lock` are
 // the marks follow link-down and follow lock, 0 or 1.
@@ -16,45 +16,45 @@ pub struct Settings {
     pub lock: u8,
 }
 
-fn label_fits(label: u32) -> bool
-    ensures { λ r. ⌜ r ≡ labelFits label ⌝ }
+fn circuit_fits(label: u32, discriminator: u32, period: u32) -> bool
+    ensures { λ r. ⌜ r ≡ circuitFits label discriminator period ⌝ }
 {
     if label < 16 {
         return false;
     }
-    label <= 1_048_575
-}
-
-fn period_fits(period: u32) -> bool
-    ensures { λ r. ⌜ r ≡ periodFits period ⌝ }
-{
+    if 1_048_575 < label {
+        return false;
+    }
+    if discriminator == 0 {
+        return false;
+    }
     if period < 1_000 {
         return false;
     }
     period <= 10_000_000
 }
 
+fn choices_fit(own: u16, expected: u16, link: u8, lock: u8) -> bool
+    ensures { λ r. ⌜ r ≡ choicesFit own expected link lock ⌝ }
+{
+    if 2 <= own {
+        return false;
+    }
+    if 2 <= expected {
+        return false;
+    }
+    if 2 <= link {
+        return false;
+    }
+    lock < 2
+}
+
 // Every setting in its range.
 pub fn settings_fit(s: Settings) -> bool
     ensures { λ r. ⌜ r ≡ settingsFit s ⌝ }
 {
-    if !label_fits(s.label) {
-        return false;
+    if circuit_fits(s.label, s.discriminator, s.period) {
+        return choices_fit(s.own.kind, s.expected.kind, s.link, s.lock);
     }
-    if s.discriminator == 0 {
-        return false;
-    }
-    if !period_fits(s.period) {
-        return false;
-    }
-    if 2 <= s.own.kind {
-        return false;
-    }
-    if 2 <= s.expected.kind {
-        return false;
-    }
-    if 2 <= s.link {
-        return false;
-    }
-    s.lock < 2
+    false
 }
