@@ -6,10 +6,10 @@ use lib.Dec.{eqb}
 use Rattle.fault.specs.declared.Fault.{Fault}
 use Rattle.fault.specs.declared.IfId.{IfId}
 use Rattle.fault.specs.declared.IfId.the-variants.{Absent, Present}
-use Rattle.rules.specs.declared.settings.Settings.{Settings}
-use Rattle.rules.specs.declared.condition.Key.{Key}
-use Rattle.rules.specs.declared.state.Input.{Input}
-use Rattle.rules.specs.declared.state.Input.the-variants.{LinkDown, LockReport}
+use Rattle.rules.specs.declared.Settings.{Settings}
+use Rattle.rules.specs.declared.Key.{Key}
+use Rattle.rules.specs.declared.Input.{Input}
+use Rattle.rules.specs.declared.Input.the-variants.{LinkDown, LockReport}
 
 -- the key of a message: its type and its IF_ID
 abbrev pub keyWith : ℕ → IfId → Key

@@ -7,9 +7,9 @@ use Rattle.cv.specs.declared.MepId.{MepId}
 use Rattle.cv.specs.MepId.{sameMepId}
 use Rattle.message.specs.declared.Message.{Message}
 use Rattle.message.specs.declared.Message.the-variants.{ContinuityCheck, ConnectivityVerification, FaultManagement}
-use Rattle.rules.specs.declared.settings.Settings.{Settings}
-use Rattle.rules.specs.declared.received.Received.{Received}
-use Rattle.rules.specs.declared.received.Received.the-variants.{CrossedMessage, HeardCc, HeardCv, FaultMessage}
+use Rattle.rules.specs.declared.Settings.{Settings}
+use Rattle.rules.specs.declared.Received.{Received}
+use Rattle.rules.specs.declared.Received.the-variants.{CrossedMessage, HeardCc, HeardCv, FaultMessage}
 
 -- a Your Discriminator that is neither 0 nor the session's own
 abbrev pub foreign : ℕ → ℕ → Bool

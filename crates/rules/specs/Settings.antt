@@ -4,7 +4,7 @@ use Prim.Native.Nat.{ℕ}
 use mathlib.Core.Bool.{Bool, not, _&&_}
 use lib.Dec.{ltb, leb, eqb}
 use Rattle.cv.specs.declared.MepId.{MepId}
-use Rattle.rules.specs.declared.settings.Settings.{Settings}
+use Rattle.rules.specs.declared.Settings.{Settings}
 
 abbrev pub labelFits : ℕ → Bool
 labelFits label = leb 16 label && leb label 1048575

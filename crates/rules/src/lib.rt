@@ -1,36 +1,85 @@
 // The numbers and tables of the rules paper: what both the meaning of a history and the records need
 // and neither owns. Every function is over numbers, marks and small values.
-mod condition;
-mod diagnostic;
-mod received;
-mod settings;
-mod state;
-mod time;
+mod classes;
+mod diagnostics;
+mod keys;
+mod moves;
+mod ranges;
+mod times;
 
-pub use condition::Key;
-pub use condition::fault_input;
-pub use condition::is_followed;
-pub use condition::key_of;
-pub use condition::same_key;
-pub use diagnostic::diagnostic_of;
-pub use diagnostic::loss_alarm;
-pub use diagnostic::remote_defect;
-pub use received::Received;
-pub use received::received_as;
-pub use settings::Settings;
-pub use settings::settings_fit;
-pub use state::Input;
-pub use state::State;
-pub use state::coming_up;
-pub use state::down_by_neighbor;
-pub use state::locked;
-pub use state::move_by;
-pub use state::received_input;
-pub use state::report_number;
-pub use state::state_of;
-pub use state::stored_number;
-pub use time::detection_time;
-pub use time::is_late;
-pub use time::is_past;
-pub use time::is_within;
-pub use time::lifetime_of;
+use bfd::Packet;
+pub use classes::received_as;
+use cv::MepId;
+pub use diagnostics::diagnostic_of;
+pub use diagnostics::loss_alarm;
+pub use diagnostics::remote_defect;
+use fault::Fault;
+pub use keys::fault_input;
+pub use keys::is_followed;
+pub use keys::key_of;
+pub use keys::same_key;
+pub use moves::coming_up;
+pub use moves::down_by_neighbor;
+pub use moves::locked;
+pub use moves::move_by;
+pub use moves::received_input;
+pub use moves::report_number;
+pub use moves::state_of;
+pub use moves::stored_number;
+pub use ranges::settings_fit;
+pub use times::detection_time;
+pub use times::is_late;
+pub use times::is_past;
+pub use times::is_within;
+pub use times::lifetime_of;
+
+// AdminDown is locked; NeighborDown is DOWN by a received state, remembered until DOWN is left.
+pub enum State {
+    AdminDown,
+    Down,
+    NeighborDown,
+    Init,
+    Up,
+}
+
+// What moves a session: a received state, a loss, LDI, LKR, a crossed message.
+pub enum Input {
+    GotAdminDown,
+    GotDown,
+    GotInit,
+    GotUp,
+    Timer,
+    LinkDown,
+    LockReport,
+    Crossed,
+}
+
+// Numbers alone, so that a record that holds them can be lent by any caller. `link` and `lock` are
+// the marks follow link-down and follow lock, 0 or 1.
+#[repr(C)]
+pub struct Settings {
+    pub label: u32,
+    pub discriminator: u32,
+    pub period: u32,
+    pub own: MepId,
+    pub expected: MepId,
+    pub link: u8,
+    pub lock: u8,
+}
+
+// What tells one condition from another: type 1 AIS or 2 LKR, and an IF_ID, present 1 or absent 0.
+#[repr(C)]
+pub struct Key {
+    pub node: u32,
+    pub interface: u32,
+    pub kind: u8,
+    pub present: u8,
+}
+
+// What a message is to the session of its label.
+pub enum Received {
+    CrossedMessage,
+    HeardCc(Packet),
+    HeardCv,
+    FaultMessage(Fault),
+}

@@ -1,0 +1,118 @@
+// Refusal 26 for the four places: early returns over numbers, nothing asked of an empty place, keys
+// compared only where two places are filled, ages last.
+use crate::Condition;
+use crate::Conditions;
+use crate::standing::is_fresh;
+ghost use mathlib.Core.Path.{_≡_};
+ghost use mathlib.Core.Bool.{not, _&&_};
+ghost use Rattle.conditions.specs.Soundness.{fieldsSound, placeSound, placesSound, clash, noClash, conditionsSound};
+
+fn fields_sound(kind: u8, present: u8, link: u8, refresh: u8, at: u64, clock: u64) -> bool
+    ensures { λ r. ⌜ r ≡ fieldsSound kind present link refresh at clock ⌝ }
+{
+    if 2 < kind {
+        return false;
+    }
+    if 2 <= present {
+        return false;
+    }
+    if 2 <= link {
+        return false;
+    }
+    if refresh < 1 {
+        return false;
+    }
+    if 20 < refresh {
+        return false;
+    }
+    at <= clock
+}
+
+fn place_sound(c: Condition, clock: u64) -> bool
+    ensures { λ r. ⌜ r ≡ placeSound c clock ⌝ }
+{
+    if c.key.kind == 0 {
+        return true;
+    }
+    fields_sound(c.key.kind, c.key.present, c.link, c.refresh, c.at, clock)
+}
+
+fn do_clash(a: Condition, b: Condition, clock: u64) -> bool
+    ensures { λ r. ⌜ r ≡ clash a b clock ⌝ }
+{
+    if a.key.kind == 0 {
+        return false;
+    }
+    if b.key.kind == 0 {
+        return false;
+    }
+    let one = a.key;
+    let other = b.key;
+    if rules::same_key(one, other) {
+        if is_fresh(a, clock) {
+            return is_fresh(b, clock);
+        }
+    }
+    false
+}
+
+// Whether a clashes with none of the three others.
+fn apart(a: Condition, b: Condition, c: Condition, d: Condition, clock: u64) -> bool
+    ensures { λ r. ⌜ r ≡ (not (clash a b clock) && not (clash a c clock) && not (clash a d clock)) ⌝ }
+{
+    if do_clash(a, b, clock) {
+        return false;
+    }
+    if do_clash(a, c, clock) {
+        return false;
+    }
+    let last = do_clash(a, d, clock);
+    !last
+}
+
+fn none_clash(cs: Conditions, clock: u64) -> bool
+    ensures { λ r. ⌜ r ≡ noClash cs clock ⌝ }
+{
+    let a = cs.first;
+    let b = cs.second;
+    let c = cs.third;
+    let d = cs.fourth;
+    if apart(a, b, c, d, clock) {
+        if do_clash(b, c, clock) {
+            return false;
+        }
+        if do_clash(b, d, clock) {
+            return false;
+        }
+        let last = do_clash(c, d, clock);
+        return !last;
+    }
+    false
+}
+
+fn places_sound(cs: Conditions, clock: u64) -> bool
+    ensures { λ r. ⌜ r ≡ placesSound cs clock ⌝ }
+{
+    let a = cs.first;
+    let b = cs.second;
+    let c = cs.third;
+    let d = cs.fourth;
+    if place_sound(a, clock) {
+        if place_sound(b, clock) {
+            if place_sound(c, clock) {
+                return place_sound(d, clock);
+            }
+        }
+    }
+    false
+}
+
+// The clauses of 26 for the four places.
+pub fn conditions_sound(cs: Conditions, clock: u64) -> bool
+    ensures { λ r. ⌜ r ≡ conditionsSound cs clock ⌝ }
+{
+    if places_sound(cs, clock) {
+        return none_clash(cs, clock);
+    }
+    false
+}
