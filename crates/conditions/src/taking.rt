@@ -62,23 +62,29 @@ fn forget(cs: Conditions, key: Key) -> Conditions
     }
 }
 
-// The first of four marks that is not set, 4 where all are.
+fn second_clear(b: bool, c: bool, d: bool) -> u8
+    ensures { λ r. ⌜ r ≡ cond b (cond c (cond d 4 3) 2) 1 ⌝ }
+{
+    if b {
+        if c {
+            if d {
+                return 4;
+            }
+            return 3;
+        }
+        return 2;
+    }
+    1
+}
+
+// The place of the first of four marks that is not set, 4 where all are.
 fn first_clear(a: bool, b: bool, c: bool, d: bool) -> u8
     ensures { λ r. ⌜ r ≡ cond a (cond b (cond c (cond d 4 3) 2) 1) 0 ⌝ }
 {
-    if !a {
-        return 0;
+    if a {
+        return second_clear(b, c, d);
     }
-    if !b {
-        return 1;
-    }
-    if !c {
-        return 2;
-    }
-    if !d {
-        return 3;
-    }
-    4
+    0
 }
 
 fn free_place(cs: Conditions, now: u64) -> u8
