@@ -16,6 +16,10 @@ use Rattle.conditions.specs.Standing.{stands}
 abbrev pub empty : Condition
 empty = record { at = 0; key = record { node = 0; interface = 0; kind = 0; present = 0 }; refresh = 0; link = 0 }
 
+-- no condition: what a session starts with
+abbrev pub noConditions : Conditions
+noConditions = record { first = empty; second = empty; third = empty; fourth = empty }
+
 abbrev pub without : Key → Condition → Condition
 without key c = cond (sameKey (c .key) key) empty c
 

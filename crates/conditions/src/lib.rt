@@ -9,6 +9,7 @@ pub use sound::conditions_sound;
 pub use standing::any_followed;
 pub use standing::count_at;
 pub use taking::fault_answer;
+pub use taking::no_conditions;
 pub use taking::taken_in;
 
 // A place: the key of its condition (type 0 where there is none), the L flag as 0 or 1, the refresh

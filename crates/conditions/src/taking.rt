@@ -8,7 +8,7 @@ use rules::Key;
 ghost use mathlib.Core.Path.{_≡_};
 ghost use mathlib.Core.Bool.{cond, not, _&&_};
 ghost use lib.Dec.{eqb};
-ghost use Rattle.conditions.specs.Taking.{empty, without, forgotten, freePlace, placed, conditionOf, faultAnswer, takenIn};
+ghost use Rattle.conditions.specs.Taking.{empty, noConditions, without, forgotten, freePlace, placed, conditionOf, faultAnswer, takenIn};
 
 fn empty_place() -> Condition
     ensures { λ r. ⌜ r ≡ empty ⌝ }
@@ -24,6 +24,19 @@ fn empty_place() -> Condition
         key: key,
         refresh: 0,
         link: 0,
+    }
+}
+
+// What a session starts with.
+pub fn no_conditions() -> Conditions
+    ensures { λ r. ⌜ r ≡ noConditions ⌝ }
+{
+    let c = empty_place();
+    Conditions {
+        first: c,
+        second: c,
+        third: c,
+        fourth: c,
     }
 }
 

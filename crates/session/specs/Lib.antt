@@ -1,0 +1,4 @@
+pub mod Queries
+pub mod Steps
+pub mod Reception
+pub mod Soundness

@@ -1,0 +1,76 @@
+-- What a session's record shows at a clock.
+-- Assumes nothing.
+use Prim.Native.Nat.{ℕ}
+use mathlib.Core.Bool.{Bool, false, cond, not, _&&_}
+use mathlib.Core.List.{List}
+use lib.Dec.{eqb}
+use Rattle.octets.specs.Choice.{bitOf}
+use Rattle.bfd.specs.declared.Packet.{Packet}
+use Rattle.bfd.specs.Octets.{ccOctets}
+use Rattle.cv.specs.Cv.{cvOctets}
+use Rattle.rules.specs.declared.State.{State}
+use Rattle.rules.specs.declared.Input.the-variants.{Timer}
+use Rattle.rules.specs.Times.{past, within, detectionTime, crossingTime}
+use Rattle.rules.specs.States.{moved, reported, isLocked, downByNeighbor, stateOf}
+use Rattle.rules.specs.Diagnostics.{remoteDefect, lossAlarm, diagnosticOf}
+use Rattle.conditions.specs.Standing.{countAt, anyFollowed}
+use Rattle.session.specs.declared.Session.{Session}
+use Rattle.session.specs.declared.Report.{Report}
+
+abbrev pub lockedIn : Session → Bool
+lockedIn s = isLocked (stateOf (s .state))
+
+-- loss: not locked, and more than period times multiplier since the date that the session is timed from
+unfoldable pub lossAt : Session → ℕ → Bool
+lossAt s now = not (lockedIn s) && past (s .timed) (detectionTime (s .settings .period) (s .peer .multiplier)) now
+
+-- crossing: a crossed message less than 3,500,000 before now
+unfoldable pub crossingAt : Session → ℕ → Bool
+crossingAt s now = eqb (s .crossing) 1 && within (s .crossed) crossingTime now
+
+-- the state after TIMER, which a session with a loss has been given at the latest now
+unfoldable pub stateAt : Session → ℕ → State
+stateAt s now = cond (lossAt s now) (moved (stateOf (s .state)) Timer) (stateOf (s .state))
+
+-- the seven numbers; a held-back alarm shows as loss 1 and alarm 0
+unfoldable pub reportAt : Session → ℕ → Report
+reportAt s now =
+    record {
+      state = reported (stateAt s now);
+      crossing = bitOf (crossingAt s now);
+      loss = bitOf (lossAt s now);
+      alarm = bitOf (lossAlarm (lossAt s now) (countAt (s .conditions) now));
+      rdi = bitOf (remoteDefect (lockedIn s) (lossAt s now) (s .peer .diagnostic));
+      blocked = bitOf (crossingAt s now);
+      conditions = countAt (s .conditions) now;
+    }
+
+-- the diagnostic to write
+unfoldable pub diagnosticAt : Session → ℕ → ℕ
+diagnosticAt s now =
+    diagnosticOf (lockedIn s) (crossingAt s now) (anyFollowed (s .settings) (s .conditions) now) (lossAt s now) (downByNeighbor (stateAt s now))
+
+-- the packet to write: multiplier 3, both intervals the period, echo 0, no flag but F where it is asked for
+unfoldable pub packetAt : Session → ℕ → Bool → Packet
+packetAt s now fin =
+    record {
+      diagnostic = diagnosticAt s now;
+      state = reported (stateAt s now);
+      poll = false;
+      fin = fin;
+      independent = false;
+      demand = false;
+      multiplier = 3;
+      my = s .settings .discriminator;
+      your = s .peer .remote;
+      transmit = s .settings .period;
+      receive = s .settings .period;
+      echo = 0;
+    }
+
+-- a CC carries F when a reply is owed; a CV never does, and carries the session's own MEP-ID
+unfoldable pub ccOctetsAt : Session → ℕ → List ℕ
+ccOctetsAt s now = ccOctets (packetAt s now (eqb (s .peer .owed) 1))
+
+unfoldable pub cvOctetsAt : Session → ℕ → List ℕ
+cvOctetsAt s now = cvOctets (packetAt s now false) (s .settings .own)

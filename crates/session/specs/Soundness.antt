@@ -1,0 +1,32 @@
+-- The clauses of 26 for one record at a clock.
+-- Assumes nothing.
+use Prim.Native.Nat.{ℕ}
+use mathlib.Core.Bool.{Bool, not, _&&_, _||_}
+use lib.Dec.{leb, eqb}
+use Rattle.rules.specs.States.{isComingUp, stateOf}
+use Rattle.rules.specs.Settings.{settingsFit}
+use Rattle.conditions.specs.Soundness.{conditionsSound}
+use Rattle.session.specs.declared.Session.{Session}
+
+-- each number in its range
+abbrev pub numbersFit : ℕ → ℕ → ℕ → ℕ → ℕ → Bool
+numbersFit state multiplier diagnostic owed crossing =
+    leb state 4 && leb 1 multiplier && leb diagnostic 31 && leb owed 1 && leb crossing 1
+
+-- no date above the clock; there is no crossing's date where the mark is not set
+abbrev pub datesFit : ℕ → ℕ → ℕ → ℕ → Bool
+datesFit timed crossing crossed clock = leb timed clock && (eqb crossing 0 || leb crossed clock)
+
+-- INIT and UP need a remote discriminator
+abbrev pub remoteFits : ℕ → ℕ → Bool
+remoteFits state remote = not (isComingUp (stateOf state)) || not (eqb remote 0)
+
+-- what the record holds besides settings and conditions
+unfoldable pub ownFits : Session → ℕ → Bool
+ownFits s clock =
+    numbersFit (s .state) (s .peer .multiplier) (s .peer .diagnostic) (s .peer .owed) (s .crossing)
+    && datesFit (s .timed) (s .crossing) (s .crossed) clock
+    && remoteFits (s .state) (s .peer .remote)
+
+unfoldable pub sessionSound : Session → ℕ → Bool
+sessionSound s clock = settingsFit (s .settings) && ownFits s clock && conditionsSound (s .conditions) clock

@@ -1,0 +1,150 @@
+-- What each accepted call does to a session's record. A record is settled (TIMER, where there is a loss) before its own call acts.
+-- Assumes nothing.
+use Prim.Native.Nat.{ℕ}
+use mathlib.Core.Bool.{Bool, cond, not, _&&_, _||_}
+use lib.Dec.{eqb}
+use Rattle.octets.specs.Choice.{bitOf}
+use Rattle.bfd.specs.declared.Packet.{Packet}
+use Rattle.fault.specs.declared.Fault.{Fault}
+use Rattle.rules.specs.declared.Settings.{Settings}
+use Rattle.rules.specs.declared.State.{State}
+use Rattle.rules.specs.declared.State.the-variants.{AdminDown, Down}
+use Rattle.rules.specs.declared.Input.the-variants.{Crossed}
+use Rattle.rules.specs.States.{moved, received, stored}
+use Rattle.rules.specs.Conditions.{follows, faultInput}
+use Rattle.conditions.specs.Taking.{noConditions, takenIn}
+use Rattle.session.specs.declared.Session.{Session}
+use Rattle.session.specs.Queries.{lockedIn, stateAt}
+
+-- a new session is DOWN, timed from its opening, with multiplier 3
+unfoldable pub opened : Settings → ℕ → Session
+opened settings reading =
+    record {
+      timed = reading;
+      crossed = 0;
+      conditions = noConditions;
+      settings = settings;
+      peer = record { remote = 0; multiplier = 3; diagnostic = 0; owed = 0 };
+      state = stored Down;
+      crossing = 0;
+    }
+
+-- TIMER
+unfoldable pub settled : Session → ℕ → Session
+settled s reading =
+    record {
+      timed = s .timed;
+      crossed = s .crossed;
+      conditions = s .conditions;
+      settings = s .settings;
+      peer = s .peer;
+      state = stored (stateAt s reading);
+      crossing = s .crossing;
+    }
+
+-- lock: ADMIN DOWN; the remote diagnostic and any reply owed are forgotten
+unfoldable pub lockedBy : Session → Session
+lockedBy s =
+    record {
+      timed = s .timed;
+      crossed = s .crossed;
+      conditions = s .conditions;
+      settings = s .settings;
+      peer = record { remote = s .peer .remote; multiplier = s .peer .multiplier; diagnostic = 0; owed = 0 };
+      state = stored AdminDown;
+      crossing = s .crossing;
+    }
+
+-- unlock: a locked session is DOWN, with multiplier 3, timed from the reading; another is settled
+unfoldable pub unlockedAt : Session → ℕ → Session
+unlockedAt s reading =
+    record {
+      timed = cond (lockedIn s) reading (s .timed);
+      crossed = s .crossed;
+      conditions = s .conditions;
+      settings = s .settings;
+      peer = record {
+        remote = s .peer .remote;
+        multiplier = cond (lockedIn s) 3 (s .peer .multiplier);
+        diagnostic = s .peer .diagnostic;
+        owed = s .peer .owed;
+      };
+      state = stored (cond (lockedIn s) Down (stateAt s reading));
+      crossing = s .crossing;
+    }
+
+-- a heard CC restarts the detection time, gives multiplier, remote discriminator and diagnostic, a reply owed if P is set, and its state as input
+unfoldable pub heardCc : Session → ℕ → Packet → Session
+heardCc s reading p =
+    record {
+      timed = reading;
+      crossed = s .crossed;
+      conditions = s .conditions;
+      settings = s .settings;
+      peer = record {
+        remote = p .my;
+        multiplier = p .multiplier;
+        diagnostic = p .diagnostic;
+        owed = bitOf (p .poll || eqb (s .peer .owed) 1);
+      };
+      state = stored (moved (stateAt s reading) (received (p .state)));
+      crossing = s .crossing;
+    }
+
+-- a heard CV restarts the detection time
+unfoldable pub heardCv : Session → ℕ → Session
+heardCv s reading =
+    record {
+      timed = reading;
+      crossed = s .crossed;
+      conditions = s .conditions;
+      settings = s .settings;
+      peer = s .peer;
+      state = stored (stateAt s reading);
+      crossing = s .crossing;
+    }
+
+-- a crossed message: UP becomes DOWN, and the crossing is dated; the detection time goes on
+unfoldable pub crossedAt : Session → ℕ → Session
+crossedAt s reading =
+    record {
+      timed = s .timed;
+      crossed = reading;
+      conditions = s .conditions;
+      settings = s .settings;
+      peer = s .peer;
+      state = stored (moved (stateAt s reading) Crossed);
+      crossing = 1;
+    }
+
+-- LDI and LKR: R clear, and the session follows it
+abbrev pub actsOn : Settings → Fault → Bool
+actsOn settings f = not (f .removed) && follows settings (f .kind) (f .link)
+
+abbrev pub faultState : Bool → State → ℕ → State
+faultState acts from kind = cond acts (moved from (faultInput kind)) from
+
+unfoldable pub faultTaken : Session → ℕ → Fault → Session
+faultTaken s reading f =
+    record {
+      timed = s .timed;
+      crossed = s .crossed;
+      conditions = takenIn (s .conditions) f reading;
+      settings = s .settings;
+      peer = s .peer;
+      state = stored (faultState (actsOn (s .settings) f) (stateAt s reading) (f .kind));
+      crossing = s .crossing;
+    }
+
+-- writing a CC settles the reply owed
+unfoldable pub ccWritten : Session → Session
+ccWritten s =
+    record {
+      timed = s .timed;
+      crossed = s .crossed;
+      conditions = s .conditions;
+      settings = s .settings;
+      peer = record { remote = s .peer .remote; multiplier = s .peer .multiplier; diagnostic = s .peer .diagnostic; owed = 0 };
+      state = s .state;
+      crossing = s .crossing;
+    }

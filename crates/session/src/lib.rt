@@ -1,0 +1,66 @@
+// One session's record, by value: what it shows at a clock, what each accepted call does to it, and
+// when it is sound. Every step takes the session's own settling (TIMER) with it.
+mod queries;
+mod reception;
+mod soundness;
+mod steps;
+
+use conditions::Conditions;
+pub use queries::cc_octets_at;
+pub use queries::crossing_at;
+pub use queries::cv_octets_at;
+pub use queries::diagnostic_at;
+pub use queries::is_locked;
+pub use queries::loss_at;
+pub use queries::packet_at;
+pub use queries::report_at;
+pub use queries::state_at;
+pub use reception::received_answer;
+pub use reception::received_by;
+use rules::Settings;
+pub use soundness::session_sound;
+pub use steps::cc_written;
+pub use steps::crossed_at;
+pub use steps::fault_taken;
+pub use steps::heard_cc;
+pub use steps::heard_cv;
+pub use steps::locked_by;
+pub use steps::opened_at;
+pub use steps::settled_at;
+pub use steps::unlocked_at;
+
+// What the last heard CC gave: remote discriminator (0 is none), multiplier, diagnostic, and 1 where
+// a reply to a poll is owed.
+#[repr(C)]
+pub struct Peer {
+    pub remote: u32,
+    pub multiplier: u8,
+    pub diagnostic: u8,
+    pub owed: u8,
+}
+
+// The record, numbers alone: the reading that it is timed from (opening, real unlock or last heard
+// message), the reading of the last crossed message, the conditions, the settings, the peer, the
+// state (0 to 3 as the rules paper has them, 4 for DOWN by a received state), and 1 where a crossed
+// message came.
+#[repr(C)]
+pub struct Session {
+    pub timed: u64,
+    pub crossed: u64,
+    pub conditions: Conditions,
+    pub settings: Settings,
+    pub peer: Peer,
+    pub state: u8,
+    pub crossing: u8,
+}
+
+// The seven numbers of a report.
+pub struct Report {
+    pub state: u8,
+    pub crossing: u8,
+    pub loss: u8,
+    pub alarm: u8,
+    pub rdi: u8,
+    pub blocked: u8,
+    pub conditions: u8,
+}

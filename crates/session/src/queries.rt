@@ -1,0 +1,136 @@
+// What a session's record shows at a clock.
+use crate::Report;
+use crate::Session;
+use bfd::Packet;
+use gach::CC_CHANNEL;
+use octets::bit;
+use rules::Input;
+use rules::State;
+ghost use mathlib.Core.Path.{_≡_};
+ghost use mathlib.Core.Bool.{cond, not, _&&_};
+ghost use Rattle.rules.specs.States.{moved};
+ghost use Rattle.rules.specs.declared.Input.the-variants.{Timer};
+ghost use Rattle.session.specs.Queries.{lockedIn, lossAt, crossingAt, stateAt, reportAt, diagnosticAt, packetAt, ccOctetsAt, cvOctetsAt};
+
+fn both(a: bool, b: bool) -> bool
+    ensures { λ r. ⌜ r ≡ (a && b) ⌝ }
+{
+    if a {
+        return b;
+    }
+    false
+}
+
+pub fn is_locked(s: Session) -> bool
+    ensures { λ r. ⌜ r ≡ lockedIn s ⌝ }
+{
+    rules::locked(rules::state_of(s.state))
+}
+
+// A loss: more than the detection time, and not locked.
+pub fn loss_at(s: Session, now: u64) -> bool
+    ensures { λ r. ⌜ r ≡ lossAt s now ⌝ }
+{
+    let locked = is_locked(s);
+    let span = rules::detection_time(s.settings.period, s.peer.multiplier);
+    both(!locked, rules::is_past(s.timed, span, now))
+}
+
+// A crossing: less than its time since the last crossed message.
+pub fn crossing_at(s: Session, now: u64) -> bool
+    ensures { λ r. ⌜ r ≡ crossingAt s now ⌝ }
+{
+    let marked = s.crossing == 1;
+    both(marked, rules::is_within(s.crossed, 3_500_000, now))
+}
+
+fn after_timer(loss: bool, from: State) -> State
+    ensures { λ r. ⌜ r ≡ cond loss (moved from Timer) from ⌝ }
+{
+    if loss {
+        return rules::move_by(from, Input::Timer);
+    }
+    from
+}
+
+// The state at a clock: a session with a loss has been given TIMER.
+pub fn state_at(s: Session, now: u64) -> State
+    ensures { λ r. ⌜ r ≡ stateAt s now ⌝ }
+{
+    let loss = loss_at(s, now);
+    after_timer(loss, rules::state_of(s.state))
+}
+
+// The seven numbers of the report.
+pub fn report_at(s: Session, now: u64) -> Report
+    ensures { λ r. ⌜ r ≡ reportAt s now ⌝ }
+{
+    let places = s.conditions;
+    let locked = is_locked(s);
+    let crossing = bit(crossing_at(s, now));
+    let loss = loss_at(s, now);
+    let count = conditions::count_at(places, now);
+    let alarm = rules::loss_alarm(loss, count);
+    let rdi = rules::remote_defect(locked, loss, s.peer.diagnostic);
+    let state = state_at(s, now);
+    Report {
+        state: rules::report_number(state),
+        crossing: crossing,
+        loss: bit(loss),
+        alarm: bit(alarm),
+        rdi: bit(rdi),
+        blocked: crossing,
+        conditions: count,
+    }
+}
+
+// The diagnostic to write.
+pub fn diagnostic_at(s: Session, now: u64) -> u8
+    ensures { λ r. ⌜ r ≡ diagnosticAt s now ⌝ }
+{
+    let settings = s.settings;
+    let places = s.conditions;
+    let locked = is_locked(s);
+    let crossing = crossing_at(s, now);
+    let followed = conditions::any_followed(settings, places, now);
+    let loss = loss_at(s, now);
+    let neighbor = rules::down_by_neighbor(state_at(s, now));
+    rules::diagnostic_of(locked, crossing, followed, loss, neighbor)
+}
+
+// The packet to write, with the F flag that is asked for.
+pub fn packet_at(s: Session, now: u64, fin: bool) -> Packet
+    ensures { λ r. ⌜ r ≡ packetAt s now fin ⌝ }
+{
+    let state = state_at(s, now);
+    Packet {
+        diagnostic: diagnostic_at(s, now),
+        state: rules::report_number(state),
+        poll: false,
+        fin: fin,
+        independent: false,
+        demand: false,
+        multiplier: 3,
+        my: s.settings.discriminator,
+        your: s.peer.remote,
+        transmit: s.settings.period,
+        receive: s.settings.period,
+        echo: 0,
+    }
+}
+
+// The 28 octets of the CC, with F where a reply is owed.
+pub fn cc_octets_at(s: Session, now: u64) -> [u8; 28]
+    ensures { λ r. ⌜ r ≡ ccOctetsAt s now ⌝ }
+{
+    let owed = s.peer.owed == 1;
+    bfd::packet_octets(packet_at(s, now, owed), CC_CHANNEL)
+}
+
+// The 44 octets of the CV.
+pub fn cv_octets_at(s: Session, now: u64) -> [u8; 44]
+    ensures { λ r. ⌜ r ≡ cvOctetsAt s now ⌝ }
+{
+    let own = s.settings.own;
+    cv::cv_octets(packet_at(s, now, false), own)
+}

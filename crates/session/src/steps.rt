@@ -1,0 +1,199 @@
+// What each accepted call does to a session's record.
+use crate::Peer;
+use crate::Session;
+use crate::queries::is_locked;
+use crate::queries::state_at;
+use bfd::Packet;
+use fault::Fault;
+use octets::bit;
+use rules::Input;
+use rules::Settings;
+use rules::State;
+ghost use mathlib.Core.Path.{_≡_};
+ghost use mathlib.Core.Bool.{cond, not, _&&_, _||_};
+ghost use Rattle.rules.specs.declared.State.the-variants.{Down};
+ghost use Rattle.session.specs.Steps.{opened, settled, lockedBy, unlockedAt, heardCc, heardCv, crossedAt, actsOn, faultState, faultTaken, ccWritten};
+
+// A new session.
+pub fn opened_at(settings: Settings, reading: u64) -> Session
+    ensures { λ r. ⌜ r ≡ opened settings reading ⌝ }
+{
+    let none = conditions::no_conditions();
+    let peer = Peer {
+        remote: 0,
+        multiplier: 3,
+        diagnostic: 0,
+        owed: 0,
+    };
+    Session {
+        timed: reading,
+        crossed: 0,
+        conditions: none,
+        settings: settings,
+        peer: peer,
+        state: 1,
+        crossing: 0,
+    }
+}
+
+// TIMER, where there is a loss at the reading.
+pub fn settled_at(s: Session, reading: u64) -> Session
+    ensures { λ r. ⌜ r ≡ settled s reading ⌝ }
+{
+    let state = rules::stored_number(state_at(s, reading));
+    let mut next = s;
+    next.state = state;
+    next
+}
+
+// Lock.
+pub fn locked_by(s: Session) -> Session
+    ensures { λ r. ⌜ r ≡ lockedBy s ⌝ }
+{
+    let mut next = s;
+    next.state = 0;
+    next.peer.diagnostic = 0;
+    next.peer.owed = 0;
+    next
+}
+
+fn unlocked_state(locked: bool, from: State) -> State
+    ensures { λ r. ⌜ r ≡ cond locked Down from ⌝ }
+{
+    if locked {
+        return State::Down;
+    }
+    from
+}
+
+fn unlocked_multiplier(locked: bool, multiplier: u8) -> u8
+    ensures { λ r. ⌜ r ≡ cond locked 3 multiplier ⌝ }
+{
+    if locked {
+        return 3;
+    }
+    multiplier
+}
+
+fn unlocked_date(locked: bool, reading: u64, timed: u64) -> u64
+    ensures { λ r. ⌜ r ≡ cond locked reading timed ⌝ }
+{
+    if locked {
+        return reading;
+    }
+    timed
+}
+
+// Unlock: real where the session is locked, else it is settled.
+pub fn unlocked_at(s: Session, reading: u64) -> Session
+    ensures { λ r. ⌜ r ≡ unlockedAt s reading ⌝ }
+{
+    let locked = is_locked(s);
+    let state = unlocked_state(locked, state_at(s, reading));
+    let number = rules::stored_number(state);
+    let multiplier = unlocked_multiplier(locked, s.peer.multiplier);
+    let timed = unlocked_date(locked, reading, s.timed);
+    let mut next = s;
+    next.state = number;
+    next.peer.multiplier = multiplier;
+    next.timed = timed;
+    next
+}
+
+fn either(a: bool, b: bool) -> bool
+    ensures { λ r. ⌜ r ≡ (a || b) ⌝ }
+{
+    if a {
+        return true;
+    }
+    b
+}
+
+// A heard CC.
+pub fn heard_cc(s: Session, reading: u64, p: Packet) -> Session
+    ensures { λ r. ⌜ r ≡ heardCc s reading p ⌝ }
+{
+    let from = state_at(s, reading);
+    let to = rules::move_by(from, rules::received_input(p.state));
+    let number = rules::stored_number(to);
+    let before = s.peer.owed == 1;
+    let owed = bit(either(p.poll, before));
+    let peer = Peer {
+        remote: p.my,
+        multiplier: p.multiplier,
+        diagnostic: p.diagnostic,
+        owed: owed,
+    };
+    let mut next = s;
+    next.timed = reading;
+    next.peer = peer;
+    next.state = number;
+    next
+}
+
+// A heard CV.
+pub fn heard_cv(s: Session, reading: u64) -> Session
+    ensures { λ r. ⌜ r ≡ heardCv s reading ⌝ }
+{
+    let state = rules::stored_number(state_at(s, reading));
+    let mut next = s;
+    next.timed = reading;
+    next.state = state;
+    next
+}
+
+// A crossed CC or CV.
+pub fn crossed_at(s: Session, reading: u64) -> Session
+    ensures { λ r. ⌜ r ≡ crossedAt s reading ⌝ }
+{
+    let to = rules::move_by(state_at(s, reading), Input::Crossed);
+    let number = rules::stored_number(to);
+    let mut next = s;
+    next.crossed = reading;
+    next.crossing = 1;
+    next.state = number;
+    next
+}
+
+fn follows_fault(settings: Settings, f: Fault) -> bool
+    ensures { λ r. ⌜ r ≡ actsOn settings f ⌝ }
+{
+    if f.removed {
+        return false;
+    }
+    rules::is_followed(settings, f.kind, f.link)
+}
+
+fn state_by_fault(acts: bool, from: State, kind: u8) -> State
+    ensures { λ r. ⌜ r ≡ faultState acts from kind ⌝ }
+{
+    if acts {
+        return rules::move_by(from, rules::fault_input(kind));
+    }
+    from
+}
+
+// An accepted fault message.
+pub fn fault_taken(s: Session, reading: u64, f: Fault) -> Session
+    ensures { λ r. ⌜ r ≡ faultTaken s reading f ⌝ }
+{
+    let settings = s.settings;
+    let places = s.conditions;
+    let acts = follows_fault(settings, f);
+    let to = state_by_fault(acts, state_at(s, reading), f.kind);
+    let number = rules::stored_number(to);
+    let taken = conditions::taken_in(places, f, reading);
+    let mut next = s;
+    next.conditions = taken;
+    next.state = number;
+    next
+}
+
+// A written CC settles the reply owed.
+pub fn cc_written(s: Session) -> Session
+    ensures { λ r. ⌜ r ≡ ccWritten s ⌝ }
+{
+    let mut next = s;
+    next.peer.owed = 0;
+    next
+}
