@@ -1,22 +1,11 @@
+use Rattle.session.specs.Steps.{settled}
 use borrow.Author.Needs.{needs}
 use Rattle.session.proofs.steps.settled_at.Statement.{statement}
 use Rattle.session.proofs.steps.settled_at.Tie as tie
-use Rattle.session.proofs.steps.settled_at.Reads as reads
-use Rattle.session.proofs.steps.settled_at.Lts as lts
-use Rattle.rules.proofs.stored_number.Reads as stored-number-reads
-use Rattle.session.proofs.queries.state_at.Reads as state-at-reads
-
--- src/steps.rt:43:38
-state-at-requires : tie.Need-state-at-requires
-state-at-requires c κs = search needs
-
--- src/steps.rt:43:9
-stored-number-requires : tie.Need-stored-number-requires
-stored-number-requires c κs = search needs
-
--- src/steps.rt:40:1
-returns : tie.Need-returns
-returns c = ?
 
 pub settled-at-spec : {M : Type 1} → statement M
-settled-at-spec = tie.close (tie.spec state-at-requires stored-number-requires returns)
+unfolding settled
+settled-at-spec =
+    tie.close
+    (tie.spec (λ c κs. search needs) (λ c κs. search needs)
+    (λ c. rw (c .stored-number .ensures, c .before .state-at .ensures)))
