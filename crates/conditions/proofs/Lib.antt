@@ -1,0 +1,2 @@
+pub mod Fading
+pub mod Taken

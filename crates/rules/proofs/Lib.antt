@@ -1,0 +1,4 @@
+pub mod Bools
+pub mod Ages
+pub mod States
+pub mod SameKeys
