@@ -2,3 +2,4 @@ pub mod Bools
 pub mod Ages
 pub mod States
 pub mod SameKeys
+pub mod Fitting

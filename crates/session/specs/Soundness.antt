@@ -1,8 +1,9 @@
 -- The clauses of 26 for one record at a clock.
 -- Assumes nothing.
-use Prim.Native.Nat.{ℕ}
+use Prim.Native.Nat.{ℕ, _^_, _<_}
 use mathlib.Core.Bool.{Bool, not, _&&_, _||_}
 use lib.Dec.{leb, eqb}
+use Rattle.cv.specs.MepId.{MepSized}
 use Rattle.rules.specs.States.{isComingUp, stateOf}
 use Rattle.rules.specs.Settings.{settingsFit}
 use Rattle.conditions.specs.Soundness.{conditionsSound}
@@ -30,3 +31,9 @@ ownFits s clock =
 
 unfoldable pub sessionSound : Session → ℕ → Bool
 sessionSound s clock = settingsFit (s .settings) && ownFits s clock && conditionsSound (s .conditions) clock
+
+-- the numbers that go out in messages are those that the code's types hold
+pub record Held (s : Session) : Type 0 where
+  pub discriminator : s .settings .discriminator < 256 ^ 4
+  pub remote : s .peer .remote < 256 ^ 4
+  pub own : MepSized (s .settings .own)

@@ -1,0 +1,70 @@
+-- A loss, once come, stays; settling twice is settling at the later reading.
+-- Assumes nothing.
+use mathlib.Core.Path.{_≡_, refl, sym, ap, _∙_}
+use mathlib.Core.Bool.{Bool, true, false, cond, not, _&&_}
+use Prim.Native.Nat.{ℕ, _≤_}
+use Rattle.octets.proofs.Chain.{and-both}
+use Rattle.rules.specs.declared.State.{State}
+use Rattle.rules.specs.declared.Input.the-variants.{Timer}
+use Rattle.rules.specs.Times.{past, detectionTime}
+use Rattle.rules.specs.States.{moved, isLocked, isComingUp, stored, stateOf}
+use Rattle.rules.proofs.Ages.{past-later}
+use Rattle.rules.proofs.Bools.{split, both-true, no-way}
+use Rattle.rules.proofs.States.{state-stored, locked-still, timer-twice, Lowering, byTimer, lowered}
+use Rattle.session.specs.declared.Session.{Session}
+use Rattle.session.specs.Queries.{lockedIn, lossAt, stateAt}
+use Rattle.session.specs.Steps.{settled}
+
+-- a loss at one clock is a loss at every later one
+pub loss-later : (s : Session) (now later : ℕ) → now ≤ later → lossAt s now ≡ true → lossAt s later ≡ true
+unfolding lossAt
+loss-later s now later h e =
+    let a = and-both (not (lockedIn s)) (past (s .timed) (detectionTime (s .settings .period) (s .peer .multiplier)) now) e in
+    both-true (a .0) (past-later (s .timed) (detectionTime (s .settings .period) (s .peer .multiplier)) now later h (a .1))
+
+-- settling neither locks nor unlocks
+settled-locked : (s : Session) (now : ℕ) → lockedIn (settled s now) ≡ lockedIn s
+unfolding settled stateAt
+settled-locked s now =
+    ap isLocked (state-stored (stateAt s now))
+    ∙ split (lossAt s now) (λ e. rw e (locked-still (stateOf (s .state)))) (λ e. rw e)
+
+-- so the loss of a settled record is that of the record
+pub settled-loss : (s : Session) (now later : ℕ) → lossAt (settled s now) later ≡ lossAt s later
+unfolding lossAt settled
+settled-loss s now later = ap (λ b. not b && past (s .timed) (detectionTime (s .settings .period) (s .peer .multiplier)) later) (settled-locked s now)
+
+-- it starts from the state at that clock
+settled-start : (s : Session) (now : ℕ) → stateOf (settled s now .state) ≡ stateAt s now
+unfolding settled
+settled-start s now = state-stored (stateAt s now)
+
+-- and its state at a later clock is the record's
+pub settled-state : (s : Session) (now later : ℕ) → now ≤ later → stateAt (settled s now) later ≡ stateAt s later
+unfolding stateAt
+settled-state s now later h =
+    let from = stateOf (s .state) in
+    rw (settled-loss s now later, settled-start s now)
+    (split (lossAt s now) (λ a. rw (a, loss-later s now later h a) (timer-twice from)) (λ a. rw a))
+
+-- settling twice is settling at the later
+pub settled-twice : (s : Session) (now later : ℕ) → now ≤ later → settled (settled s now) later ≡ settled s later
+unfolding settled
+settled-twice s now later h =
+    λ i. record {
+      timed = s .timed;
+      crossed = s .crossed;
+      conditions = s .conditions;
+      settings = s .settings;
+      peer = s .peer;
+      state = stored (settled-state s now later h i);
+      crossing = s .crossing;
+    }
+
+-- a session that is coming up at a clock was coming up before
+pub coming-up-before : (s : Session) (now : ℕ) → isComingUp (stateAt s now) ≡ true → isComingUp (stateOf (s .state)) ≡ true
+unfolding stateAt
+coming-up-before s now e =
+    split (lossAt s now)
+    (λ a. no-way (rw a at e) (lowered (stateOf (s .state)) byTimer))
+    (λ a. rw a at e)
