@@ -48,7 +48,7 @@ fn refused() {
     kind(16, b"\x10\x00\x01\x22");
 }
 
-pub fn vectors() {
+pub(crate) fn vectors() {
     // No octet, 4 are needed: 3.
     kind(1, b"");
     // 3 octets: 3.

@@ -8,7 +8,7 @@ pub struct Line {
 }
 
 // The start of every line: the vector's number, what is done with it and the answer.
-pub fn heading(number: u32, what: &[u8], answer: u32) -> Line
+pub(crate) fn heading(number: u32, what: &[u8], answer: u32) -> Line
     ensures { λ r. ⌜ r .len ≤ 256 ⌝ }
 {
     let empty = Line {
@@ -63,35 +63,35 @@ impl Line {
     }
 
     // A space and a word.
-    pub fn word(self, s: &[u8]) -> Line
+    pub(crate) fn word(self, s: &[u8]) -> Line
         ensures { λ r. ⌜ r .len ≤ 256 ⌝ }
     {
         self.byte(b' ').text(s)
     }
 
     // A space and a number in decimal.
-    pub fn number(self, n: u32) -> Line
+    pub(crate) fn number(self, n: u32) -> Line
         ensures { λ r. ⌜ r .len ≤ 256 ⌝ }
     {
         self.byte(b' ').decimal(n)
     }
 
     // A space and two numbers with a stroke between them.
-    pub fn pair(self, a: u32, b: u32) -> Line
+    pub(crate) fn pair(self, a: u32, b: u32) -> Line
         ensures { λ r. ⌜ r .len ≤ 256 ⌝ }
     {
         self.number(a).byte(b'/').decimal(b)
     }
 
     // A space and 0 or 1.
-    pub fn flag(self, set: bool) -> Line
+    pub(crate) fn flag(self, set: bool) -> Line
         ensures { λ r. ⌜ r .len ≤ 256 ⌝ }
     {
         self.number(octets::bit(set) as u32)
     }
 
     // The fields of a BFD packet in the order of their octets, the flags as P F C D.
-    pub fn packet(self, p: Packet) -> Line
+    pub(crate) fn packet(self, p: Packet) -> Line
         ensures { λ r. ⌜ r .len ≤ 256 ⌝ }
     {
         let line = self.number(p.diagnostic as u32).number(p.state as u32);
@@ -104,7 +104,7 @@ impl Line {
     }
 
     // A space and the octets in lower-case hex; nothing where there are none.
-    pub fn octets(self, s: &[u8]) -> Line
+    pub(crate) fn octets(self, s: &[u8]) -> Line
         requires { ⌜ self .len ≤ 256 ⌝ }
         ensures { λ r. ⌜ r .len ≤ 256 ⌝ }
     {
@@ -119,7 +119,7 @@ impl Line {
     }
 
     // Writes the line and its end to standard output.
-    pub fn show(self) {
+    pub(crate) fn show(self) {
         let line = self.byte(b'\n');
         let bytes = line.bytes;
         let n = io::count(line.len as isize, &bytes);

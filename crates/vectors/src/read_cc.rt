@@ -195,7 +195,7 @@ fn orders() {
     );
 }
 
-pub fn vectors() {
+pub(crate) fn vectors() {
     lengths();
     fields();
     headers();

@@ -159,7 +159,7 @@ fn packet_lengths() {
     );
 }
 
-pub fn vectors() {
+pub(crate) fn vectors() {
     lengths();
     parts();
     headers_and_packets();

@@ -229,7 +229,7 @@ fn long(number: u32, size: usize) {
     fault(number, front(&m, size));
 }
 
-pub fn vectors() {
+pub(crate) fn vectors() {
     lengths();
     headers();
     heads();

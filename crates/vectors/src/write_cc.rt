@@ -92,7 +92,7 @@ fn all_fields() {
     );
 }
 
-pub fn vectors() {
+pub(crate) fn vectors() {
     buffers();
     all_fields();
     // P: octet 5 is 01 1 0 0 0 0 0 = 60.

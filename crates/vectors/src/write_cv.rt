@@ -70,7 +70,7 @@ fn buffers() {
     write(163, &mut short, up(), mep(2, 3));
 }
 
-pub fn vectors() {
+pub(crate) fn vectors() {
     buffers();
     // Type 2: 10, and 44 times ee.
     in_44(164, up(), mep(2, 3));

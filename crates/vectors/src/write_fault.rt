@@ -87,7 +87,7 @@ fn short_buffers() {
     write(180, &mut b, f);
 }
 
-pub fn vectors() {
+pub(crate) fn vectors() {
     presences();
     short_buffers();
     // L: octet 6 is 02.
