@@ -83,3 +83,14 @@ pub enum Received {
     HeardCv,
     FaultMessage(Fault),
 }
+
+// The seven numbers of a report.
+pub struct Report {
+    pub state: u8,
+    pub crossing: u8,
+    pub loss: u8,
+    pub alarm: u8,
+    pub rdi: u8,
+    pub blocked: u8,
+    pub conditions: u8,
+}

@@ -4,18 +4,17 @@ use Prim.Native.Nat.{ℕ}
 use mathlib.Core.Bool.{Bool, false, cond, not, _&&_}
 use mathlib.Core.List.{List}
 use lib.Dec.{eqb}
-use Rattle.octets.specs.Choice.{bitOf}
 use Rattle.bfd.specs.declared.Packet.{Packet}
 use Rattle.bfd.specs.Octets.{ccOctets}
 use Rattle.cv.specs.Cv.{cvOctets}
 use Rattle.rules.specs.declared.State.{State}
 use Rattle.rules.specs.declared.Input.the-variants.{Timer}
 use Rattle.rules.specs.Times.{past, within, detectionTime, crossingTime}
-use Rattle.rules.specs.States.{moved, reported, isLocked, downByNeighbor, stateOf}
-use Rattle.rules.specs.Diagnostics.{remoteDefect, lossAlarm, diagnosticOf}
+use Rattle.rules.specs.States.{moved, isLocked, downByNeighbor, stateOf}
+use Rattle.rules.specs.Diagnostics.{remoteDefect, diagnosticOf, reportOf, packetOut}
 use Rattle.conditions.specs.Standing.{countAt, anyFollowed}
 use Rattle.session.specs.declared.Session.{Session}
-use Rattle.session.specs.declared.Report.{Report}
+use Rattle.rules.specs.declared.Report.{Report}
 
 abbrev pub lockedIn : Session → Bool
 lockedIn s = isLocked (stateOf (s .state))
@@ -32,41 +31,19 @@ crossingAt s now = eqb (s .crossing) 1 && within (s .crossed) crossingTime now
 unfoldable pub stateAt : Session → ℕ → State
 stateAt s now = cond (lossAt s now) (moved (stateOf (s .state)) Timer) (stateOf (s .state))
 
--- the seven numbers; a held-back alarm shows as loss 1 and alarm 0
+-- the report at a clock
 unfoldable pub reportAt : Session → ℕ → Report
 reportAt s now =
-    record {
-      state = reported (stateAt s now);
-      crossing = bitOf (crossingAt s now);
-      loss = bitOf (lossAt s now);
-      alarm = bitOf (lossAlarm (lossAt s now) (countAt (s .conditions) now));
-      rdi = bitOf (remoteDefect (lockedIn s) (lossAt s now) (s .peer .diagnostic));
-      blocked = bitOf (crossingAt s now);
-      conditions = countAt (s .conditions) now;
-    }
+    reportOf (stateAt s now) (crossingAt s now) (lossAt s now) (remoteDefect (lockedIn s) (lossAt s now) (s .peer .diagnostic)) (countAt (s .conditions) now)
 
 -- the diagnostic to write
 unfoldable pub diagnosticAt : Session → ℕ → ℕ
 diagnosticAt s now =
     diagnosticOf (lockedIn s) (crossingAt s now) (anyFollowed (s .settings) (s .conditions) now) (lossAt s now) (downByNeighbor (stateAt s now))
 
--- the packet to write: multiplier 3, both intervals the period, echo 0, no flag but F where it is asked for
+-- the packet to write
 unfoldable pub packetAt : Session → ℕ → Bool → Packet
-packetAt s now fin =
-    record {
-      diagnostic = diagnosticAt s now;
-      state = reported (stateAt s now);
-      poll = false;
-      fin = fin;
-      independent = false;
-      demand = false;
-      multiplier = 3;
-      my = s .settings .discriminator;
-      your = s .peer .remote;
-      transmit = s .settings .period;
-      receive = s .settings .period;
-      echo = 0;
-    }
+packetAt s now fin = packetOut (diagnosticAt s now) (stateAt s now) fin (s .settings .discriminator) (s .peer .remote) (s .settings .period)
 
 -- a CC carries F when a reply is owed; a CV never does, and carries the session's own MEP-ID
 unfoldable pub ccOctetsAt : Session → ℕ → List ℕ

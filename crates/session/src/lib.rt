@@ -17,6 +17,7 @@ pub use queries::report_at;
 pub use queries::state_at;
 pub use reception::received_answer;
 pub use reception::received_by;
+pub use rules::Report;
 use rules::Settings;
 pub use soundness::session_sound;
 pub use steps::cc_written;
@@ -52,15 +53,4 @@ pub struct Session {
     pub peer: Peer,
     pub state: u8,
     pub crossing: u8,
-}
-
-// The seven numbers of a report.
-pub struct Report {
-    pub state: u8,
-    pub crossing: u8,
-    pub loss: u8,
-    pub alarm: u8,
-    pub rdi: u8,
-    pub blocked: u8,
-    pub conditions: u8,
 }

@@ -1,10 +1,10 @@
 // What a session's record shows at a clock.
-use crate::Report;
 use crate::Session;
 use bfd::Packet;
 use gach::CC_CHANNEL;
 use octets::bit;
 use rules::Input;
+use rules::Report;
 use rules::State;
 ghost use mathlib.Core.Path.{_≡_};
 ghost use mathlib.Core.Bool.{cond, not, _&&_};
