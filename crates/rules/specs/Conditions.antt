@@ -1,13 +1,15 @@
 -- What tells one fault condition from another, and which ones a session follows.
 -- Assumes nothing.
 use Prim.Native.Nat.{ℕ}
-use mathlib.Core.Bool.{Bool, _&&_, _||_, cond}
+use mathlib.Core.Bool.{Bool, cond, not, _&&_, _||_}
 use lib.Dec.{eqb}
 use Rattle.fault.specs.declared.Fault.{Fault}
 use Rattle.fault.specs.declared.IfId.{IfId}
 use Rattle.fault.specs.declared.IfId.the-variants.{Absent, Present}
+use Rattle.rules.specs.States.{moved}
 use Rattle.rules.specs.declared.Settings.{Settings}
 use Rattle.rules.specs.declared.Key.{Key}
+use Rattle.rules.specs.declared.State.{State}
 use Rattle.rules.specs.declared.Input.{Input}
 use Rattle.rules.specs.declared.Input.the-variants.{LinkDown, LockReport}
 
@@ -32,3 +34,10 @@ follows s kind link = cond (eqb kind 1) (link && eqb (s .link) 1) (eqb (s .lock)
 -- LDI or LKR
 abbrev pub faultInput : ℕ → Input
 faultInput kind = cond (eqb kind 1) LinkDown LockReport
+
+-- an accepted fault message moves the session where R is clear and the session follows it
+abbrev pub actsOn : Settings → Fault → Bool
+actsOn settings f = not (f .removed) && follows settings (f .kind) (f .link)
+
+abbrev pub faultState : Bool → State → ℕ → State
+faultState acts from kind = cond acts (moved from (faultInput kind)) from

@@ -4,3 +4,4 @@ pub mod Settings
 pub mod Conditions
 pub mod Received
 pub mod Diagnostics
+pub mod Calls

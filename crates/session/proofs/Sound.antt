@@ -17,7 +17,7 @@ use Rattle.rules.specs.declared.State.the-variants.{Down}
 use Rattle.rules.specs.declared.Input.the-variants.{Crossed, LinkDown, LockReport}
 use Rattle.rules.specs.States.{moved, received, isComingUp, stored, stateOf}
 use Rattle.rules.specs.Settings.{settingsFit}
-use Rattle.rules.specs.Conditions.{faultInput}
+use Rattle.rules.specs.Conditions.{faultInput, actsOn, faultState}
 use Rattle.rules.proofs.Bools.{split, both-true, or-cases, or-left, or-right, no-way, forced}
 use Rattle.rules.proofs.States.{state-stored, stored-fits, lowered, byLinkDown, byLockReport, crossed-up}
 use Rattle.conditions.specs.declared.Conditions.{Conditions}
@@ -27,7 +27,7 @@ use Rattle.conditions.proofs.Fading.{sound-later}
 use Rattle.conditions.proofs.Taken.{taken-sound}
 use Rattle.session.specs.declared.Session.{Session}
 use Rattle.session.specs.Queries.{lockedIn, stateAt}
-use Rattle.session.specs.Steps.{opened, settled, lockedBy, unlockedAt, heardCc, heardCv, crossedAt, actsOn, faultState, faultTaken, ccWritten}
+use Rattle.session.specs.Steps.{opened, settled, lockedBy, unlockedAt, heardCc, heardCv, crossedAt, faultTaken, ccWritten}
 use Rattle.session.specs.Soundness.{numbersFit, datesFit, remoteFits, ownFits, sessionSound}
 use Rattle.session.proofs.Settling.{coming-up-before}
 

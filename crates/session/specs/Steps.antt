@@ -1,17 +1,16 @@
 -- What each accepted call does to a session's record. A record is settled (TIMER, where there is a loss) before its own call acts.
 -- Assumes nothing.
 use Prim.Native.Nat.{ℕ}
-use mathlib.Core.Bool.{Bool, cond, not, _&&_, _||_}
+use mathlib.Core.Bool.{cond, _||_}
 use lib.Dec.{eqb}
 use Rattle.octets.specs.Choice.{bitOf}
 use Rattle.bfd.specs.declared.Packet.{Packet}
 use Rattle.fault.specs.declared.Fault.{Fault}
 use Rattle.rules.specs.declared.Settings.{Settings}
-use Rattle.rules.specs.declared.State.{State}
 use Rattle.rules.specs.declared.State.the-variants.{AdminDown, Down}
 use Rattle.rules.specs.declared.Input.the-variants.{Crossed}
 use Rattle.rules.specs.States.{moved, received, stored}
-use Rattle.rules.specs.Conditions.{follows, faultInput}
+use Rattle.rules.specs.Conditions.{actsOn, faultState}
 use Rattle.conditions.specs.Taking.{noConditions, takenIn}
 use Rattle.session.specs.declared.Session.{Session}
 use Rattle.session.specs.Queries.{lockedIn, stateAt}
@@ -117,13 +116,7 @@ crossedAt s reading =
       crossing = 1;
     }
 
--- LDI and LKR: R clear, and the session follows it
-abbrev pub actsOn : Settings → Fault → Bool
-actsOn settings f = not (f .removed) && follows settings (f .kind) (f .link)
-
-abbrev pub faultState : Bool → State → ℕ → State
-faultState acts from kind = cond acts (moved from (faultInput kind)) from
-
+-- an accepted fault message: LDI and LKR act when they arrive
 unfoldable pub faultTaken : Session → ℕ → Fault → Session
 faultTaken s reading f =
     record {

@@ -12,7 +12,8 @@ use rules::State;
 ghost use mathlib.Core.Path.{_≡_};
 ghost use mathlib.Core.Bool.{cond, not, _&&_, _||_};
 ghost use Rattle.rules.specs.declared.State.the-variants.{Down};
-ghost use Rattle.session.specs.Steps.{opened, settled, lockedBy, unlockedAt, heardCc, heardCv, crossedAt, actsOn, faultState, faultTaken, ccWritten};
+ghost use Rattle.rules.specs.Conditions.{actsOn, faultState};
+ghost use Rattle.session.specs.Steps.{opened, settled, lockedBy, unlockedAt, heardCc, heardCv, crossedAt, faultTaken, ccWritten};
 
 // A new session.
 pub fn opened_at(settings: Settings, reading: u64) -> Session
