@@ -3,3 +3,4 @@ pub mod Ages
 pub mod States
 pub mod SameKeys
 pub mod Fitting
+pub mod Lists

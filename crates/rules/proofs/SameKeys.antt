@@ -13,6 +13,7 @@ use Rattle.fault.specs.declared.IfId.{IfId}
 use Rattle.fault.specs.declared.IfId.the-variants.{Absent, Present}
 use Rattle.rules.specs.declared.Key.{Key}
 use Rattle.rules.specs.Conditions.{keyWith, keyOf, sameKey}
+use Rattle.rules.proofs.Lists.{Alike}
 use Rattle.rules.proofs.Bools.{both-true, or-cases, or-left, or-right, same-test}
 
 -- what one key says of two
@@ -67,6 +68,9 @@ same-trans a b c p q =
           (λ z. ⊎-elim (λ w. inl (s .present ∙ w)) (λ w. inr (z .0 ∙ w .0, z .1 ∙ w .1)) (t .place))
           (s .place);
     })
+
+pub keys-alike : Alike sameKey
+keys-alike = record { itself = same-refl; back = same-sym; through = same-trans }
 
 -- the key of a message
 pub key-kind : (kind : ℕ) (i : IfId) → keyWith kind i .kind ≡ kind

@@ -5,3 +5,4 @@ pub mod Conditions
 pub mod Received
 pub mod Diagnostics
 pub mod Calls
+pub mod Lists

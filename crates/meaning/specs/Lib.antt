@@ -1,0 +1,4 @@
+pub mod Stories
+pub mod Standing
+pub mod Histories
+pub mod Answers
