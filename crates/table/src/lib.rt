@@ -1,0 +1,19 @@
+// The table beside its row: the clock, and the 64-bit set of occupied places.
+ghost use mathlib.Core.Path.{_≡_};
+
+// What is lent beside the row.
+#[repr(C)]
+pub struct Head {
+    pub clock: u64,
+    pub occupied: u64,
+}
+
+// Nothing open, at clock 0.
+pub fn first_head() -> Head
+    ensures { λ r. ⌜ r ≡ record { clock = 0; occupied = 0 } ⌝ }
+{
+    Head {
+        clock: 0,
+        occupied: 0,
+    }
+}
