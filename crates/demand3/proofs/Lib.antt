@@ -1,1 +1,4 @@
 pub mod Places
+pub mod Read
+pub mod Fits
+pub mod Sim

@@ -8,6 +8,7 @@ use lib.Dec.{eqb}
 use Rattle.message.specs.Message.{messageOf}
 use Rattle.rules.specs.declared.Settings.{Settings}
 use Rattle.rules.specs.Calls.{Act, Close, Lock, Unlock, Receive, ReportOn, WriteCc, WriteCv, Call, Tick, Open, On, Said, isAccepted}
+use Rattle.rules.specs.Lists.{without}
 use Rattle.meaning.specs.Stories.{Story, opened, lock, unlock, got, wroteCc}
 
 -- a history, the latest call last
@@ -60,12 +61,8 @@ unfoldable pub story : ℕ → History → Option Story
 story l start = none
 story l (after h c a) = cond (isAccepted a) (told l c (story l h)) (story l h)
 
-unfoldable pub without : ℕ → List ℕ → List ℕ
-without l [] = []
-without l (x ∷ xs) = cond (eqb x l) xs (x ∷ without l xs)
-
 abbrev pub actLabels : ℕ → Act → List ℕ → List ℕ
-actLabels l (Close t) ls = without l ls
+actLabels l (Close t) ls = without eqb l ls
 actLabels l (Lock t) ls = ls
 actLabels l (Unlock t) ls = ls
 actLabels l (Receive m t) ls = ls

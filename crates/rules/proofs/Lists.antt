@@ -6,9 +6,10 @@ use mathlib.Core.List.{List, [], _∷_, List·Memᴰ, List·Memᴰ·head, List·
 use mathlib.Core.Logic.{_⊎_, inl, inr, ⊎-elim}
 use Prim.Native.Nat.{ℕ, suc}
 use lib.ListN.{length}
-use borrow.Author.Tests.{not-true}
+use lib.Dec.{eqb}
+use borrow.Author.Tests.{not-true, eqb-true, eq-eqb}
 use Rattle.octets.proofs.Chain.{and-both}
-use Rattle.rules.specs.Lists.{any, only, once}
+use Rattle.rules.specs.Lists.{any, only, once, without}
 use Rattle.rules.proofs.Bools.{split, both-true, or-cases, or-left, or-right, no-way, refuted, true-false, same-test}
 
 -- one element more than a list, anywhere in it
@@ -86,11 +87,6 @@ pub record Alike {A : Type 0} (same : A → A → Bool) : Type 0 where
   pub through : (a b c : A) → same a b ≡ true → same b c ≡ true → same a c ≡ true
 
 module _ {A : Type 0} (same : A → A → Bool) (alike : Alike same) where
-  -- the list without the first element that is the same as k
-  unfoldable pub dropped : A → List A → List A
-  dropped k [] = []
-  dropped k (x ∷ xs) = cond (same k x) xs (x ∷ dropped k xs)
-
   -- alike elements are alike to the same
   pub swap-same : (a b k : A) → same a b ≡ true → same k a ≡ same k b
   swap-same a b k e =
@@ -120,37 +116,37 @@ module _ {A : Type 0} (same : A → A → Bool) (alike : Alike same) where
       ∙ joined (any (same n) xs) (same n x) (not (any (same x) xs) && once same xs)
 
   -- what is left where one element is dropped
-  pub any-dropped-other : (k m : A) (xs : List A) → same k m ≡ false → any (same m) (dropped k xs) ≡ any (same m) xs
-  unfolding any dropped
-  any-dropped-other k m [] d = refl
-  any-dropped-other k m (x ∷ xs) d =
+  pub any-without-other : (k m : A) (xs : List A) → same k m ≡ false → any (same m) (without same k xs) ≡ any (same m) xs
+  unfolding any without
+  any-without-other k m [] d = refl
+  any-without-other k m (x ∷ xs) d =
       split (same k x)
       (λ e. let f : same m x ≡ false = refuted (same m x) (λ z. true-false (alike .through k x m e (alike .back x m ∙ z)) d) in rw (e, f))
-      (λ e. rw e (ap (λ (b : Bool). same m x || b) (any-dropped-other k m xs d)))
+      (λ e. rw e (ap (λ (b : Bool). same m x || b) (any-without-other k m xs d)))
 
-  pub any-dropped-same : (k : A) (xs : List A) → once same xs ≡ true → any (same k) (dropped k xs) ≡ false
-  unfolding any dropped
-  any-dropped-same k [] o = refl
-  any-dropped-same k (x ∷ xs) o =
+  pub any-without-same : (k : A) (xs : List A) → once same xs ≡ true → any (same k) (without same k xs) ≡ false
+  unfolding any without
+  any-without-same k [] o = refl
+  any-without-same k (x ∷ xs) o =
       split (same k x)
       (λ e. rw e (any-alike k x xs e ∙ once-head x xs o))
-      (λ e. rw (e, e) (any-dropped-same k xs (once-rest x xs o)))
+      (λ e. rw (e, e) (any-without-same k xs (once-rest x xs o)))
     where
       any-alike : (a b : A) (ys : List A) → same a b ≡ true → any (same a) ys ≡ any (same b) ys
       any-alike a b ys e = any-same (same a) (same b) (λ y. alike .back a y ∙ swap-same a b y e ∙ alike .back y b) ys
 
-  pub once-dropped : (k : A) (xs : List A) → once same xs ≡ true → once same (dropped k xs) ≡ true
-  unfolding dropped
-  once-dropped k [] o = o
-  once-dropped k (x ∷ xs) o =
+  pub once-without : (k : A) (xs : List A) → once same xs ≡ true → once same (without same k xs) ≡ true
+  unfolding without
+  once-without k [] o = o
+  once-without k (x ∷ xs) o =
       split (same k x)
       (λ e. rw e (once-rest x xs o))
-      (λ e. rw e (once-cons x (dropped k xs) (any-dropped-other k x xs e ∙ once-head x xs o) (once-dropped k xs (once-rest x xs o))))
+      (λ e. rw e (once-cons x (without same k xs) (any-without-other k x xs e ∙ once-head x xs o) (once-without k xs (once-rest x xs o))))
 
-  pub length-dropped : (k : A) (xs : List A) → any (same k) xs ≡ true → suc (length (dropped k xs)) ≡ length xs
-  unfolding any dropped
-  length-dropped k [] h = no-way h refl
-  length-dropped k (x ∷ xs) h = split (same k x) (λ e. rw e) (λ e. rw e (ap suc (length-dropped k xs (rw e at h))))
+  pub length-without : (k : A) (xs : List A) → any (same k) xs ≡ true → suc (length (without same k xs)) ≡ length xs
+  unfolding any without
+  length-without k [] h = no-way h refl
+  length-without k (x ∷ xs) h = split (same k x) (λ e. rw e) (λ e. rw e (ap suc (length-without k xs (rw e at h))))
 
   -- two lists that hold the same, each once, have one length
   pub same-length : (xs ys : List A) → once same xs ≡ true → once same ys ≡ true → ((k : A) → any (same k) xs ≡ any (same k) ys) → length xs ≡ length ys
@@ -158,17 +154,17 @@ module _ {A : Type 0} (same : A → A → Bool) (alike : Alike same) where
   same-length [] [] o p h = refl
   same-length [] (y ∷ ys) o p h = no-way (or-left (any (same y) ys) (alike .itself y)) (sym (h y))
   same-length (x ∷ xs) ys o p h =
-      ap suc (same-length xs (dropped x ys) (once-rest x xs o) (once-dropped x ys p) below)
-      ∙ length-dropped x ys (sym (h x) ∙ or-left (any (same x) xs) (alike .itself x))
+      ap suc (same-length xs (without same x ys) (once-rest x xs o) (once-without x ys p) below)
+      ∙ length-without x ys (sym (h x) ∙ or-left (any (same x) xs) (alike .itself x))
     where
-      below : (m : A) → any (same m) xs ≡ any (same m) (dropped x ys)
+      below : (m : A) → any (same m) xs ≡ any (same m) (without same x ys)
       below m =
           split (same x m)
           (λ e.
           (any-same (same m) (same x) (λ y. alike .back m y ∙ sym (swap-same x m y e) ∙ alike .back y x) xs ∙ once-head x xs o)
           ∙ sym
-          (any-same (same m) (same x) (λ y. alike .back m y ∙ sym (swap-same x m y e) ∙ alike .back y x) (dropped x ys) ∙ any-dropped-same x ys p))
-          (λ e. (rw (alike .back m x ∙ e) at (h m)) ∙ sym (any-dropped-other x m ys e))
+          (any-same (same m) (same x) (λ y. alike .back m y ∙ sym (swap-same x m y e) ∙ alike .back y x) (without same x ys) ∙ any-without-same x ys p))
+          (λ e. (rw (alike .back m x ∙ e) at (h m)) ∙ sym (any-without-other x m ys e))
 
   -- those that pass a test which alike elements pass alike
   module _ (p : A → Bool) (fair : (a b : A) → same a b ≡ true → p a ≡ p b) where
@@ -190,3 +186,12 @@ module _ {A : Type 0} (same : A → A → Bool) (alike : Alike same) where
         (λ q. rw q
         (once-cons x (only p xs) (any-only x xs ∙ ap (λ (b : Bool). b && p x) (once-head x xs o)) (once-only xs (once-rest x xs o))))
         (λ q. rw q (once-only xs (once-rest x xs o)))
+
+-- numbers that are equal
+pub numbers-alike : Alike eqb
+numbers-alike =
+    record {
+      itself = λ a. eq-eqb a a refl;
+      back = λ a b. same-test (eqb a b) (eqb b a) (λ e. eq-eqb b a (sym (eqb-true a b e))) (λ e. eq-eqb a b (sym (eqb-true b a e)));
+      through = λ a b c p q. eq-eqb a c (eqb-true a b p ∙ eqb-true b c q);
+    }

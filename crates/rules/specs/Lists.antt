@@ -18,3 +18,8 @@ module _ {A : Type 0} where
   unfoldable pub once : (A → A → Bool) → List A → Bool
   once same [] = true
   once same (x ∷ xs) = not (any (same x) xs) && once same xs
+
+  -- the list without its first element that is the same as k
+  unfoldable pub without : (A → A → Bool) → A → List A → List A
+  without same k [] = []
+  without same k (x ∷ xs) = cond (same k x) xs (x ∷ without same k xs)

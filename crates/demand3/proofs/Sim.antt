@@ -1,0 +1,264 @@
+-- The table and the history: what both say, call by call.
+-- Assumes nothing.
+use Prim.Native.Nat.{ℕ, suc, _+_, _≤_, _<_}
+use native.Mathlib.Omega.{arith}
+use mathlib.Core.Path.{_≡_, refl, sym, ap, _∙_, subst}
+use mathlib.Core.Bool.{Bool, true, false, cond, not, _&&_, _||_}
+use mathlib.Core.Option.{Option, none, some, Option·map}
+use mathlib.Core.List.{List, [], _∷_, List·Memᴰ}
+use mathlib.Core.Logic.{⊎-elim}
+use lib.Dec.{ltb, eqb}
+use lib.ListN.{length, getD, set, length-set}
+use borrow.Author.Tests.{eqb-true, eqb-false, eq-eqb, ne-eqb, ltb-false, not-true}
+use Rattle.octets.specs.Choice.{need, bar, orElse}
+use Rattle.octets.specs.Writing.{writing}
+use Rattle.octets.proofs.Chain.{and-both, need-passed, bar-passed, orElse-passed}
+use Rattle.message.specs.Message.{messageRefusal, messageOf}
+use Rattle.rules.specs.declared.Settings.{Settings}
+use Rattle.rules.specs.Times.{late}
+use Rattle.rules.specs.Settings.{settingsFit}
+use Rattle.rules.specs.Received.{receivedAs}
+use Rattle.rules.specs.Lists.{any, once, without}
+use Rattle.rules.specs.Calls.{Act, Close, Lock, Unlock, Receive, ReportOn, WriteCc, WriteCv, Call, Tick, Open, On, Said, isAccepted, numberOnly, reporting, writes}
+use Rattle.rules.proofs.Bools.{split, no-way, both-true, or-cases, or-left, or-right, same-test, refuted, true-false}
+use Rattle.rules.proofs.Lists.{Inserted, any-inserted, length-inserted, once-inserted, any-at, any-who, any-same, Alike, numbers-alike, any-without-other, any-without-same, once-without, length-without, once-cons}
+use Rattle.session.specs.declared.Session.{Session}
+use Rattle.session.specs.Steps as Steps
+use Rattle.session.specs.Queries.{reportAt, ccOctetsAt, cvOctetsAt}
+use Rattle.session.specs.Soundness.{sessionSound}
+use Rattle.table.specs.Places.{lowestFree, occupiedOf, opens, hasLabel, placeOf}
+use Rattle.table.specs.Table.{Table, openOf, receiveAnswer, reportAnswer, writeAnswer, sameLabel, sameDiscriminator, every, inOrder, find, isFound, rivals, openAnswer, actAnswer, asked, answer, altered, added, closed, receiving, actDone, done, next, absent}
+use Rattle.table.proofs.Rows.{update, opens-altered, opens-added, opens-closed, count-opens, free-exists, find-update-same, find-update-other, once-update, length-update, found-is, none-found, none-there, find-inserted-own, find-inserted-other, found-own}
+use Rattle.meaning.specs.Stories.{Story, opened, lock, unlock, got, wroteCc, settingsOf}
+use Rattle.meaning.specs.Standing.{ccWritten, cvWritten}
+use Rattle.meaning.specs.Histories.{actReading, reading, more, actTold, told, actLabels, labelsAfter}
+use Rattle.meaning.specs.Answers.{receivedNumber, receiveNumber, reportSaid, writeSaid, isOpen, hasDiscriminator, rival, full, openNumber, actSaid, saysOf}
+use Rattle.demand3.proofs.Fits.{Fits, same-report, same-cc, same-cv, same-received, fits-later, fits-opened, fits-locked, fits-unlocked, fits-wrote, fits-got}
+use Rattle.demand3.proofs.Read.{read-good}
+
+-- a record for a story, or neither
+abbrev pub Fit : ℕ → Option Session → Option Story → Type 0
+Fit now none none = Unit {0}
+Fit now none (some s) = ⊥
+Fit now (some r) none = ⊥
+Fit now (some r) (some s) = Fits now r s
+
+-- the table, and the three views of the history
+pub record Sim (now : ℕ) (st : ℕ → Option Story) (ls : List ℕ) (t : Table) : Type 0 where
+  pub clock : t .clock ≡ now
+  pub rows : length (t .row) ≡ 64
+  pub labels : once sameLabel (openOf t) ≡ true
+  pub discriminators : once sameDiscriminator (openOf t) ≡ true
+  pub fit : (l : ℕ) → Fit now (find l (openOf t)) (st l)
+  pub count : length (openOf t) ≡ length ls
+  pub listed : (l : ℕ) → any (eqb l) ls ≡ isOpen (st l)
+  pub once-each : once eqb ls ≡ true
+
+label-alike : Alike sameLabel
+label-alike =
+    record {
+      itself = λ a. numbers-alike .itself _;
+      back = λ a b. numbers-alike .back _ _;
+      through = λ a b c p q. numbers-alike .through _ _ _ p q;
+    }
+
+discriminator-alike : Alike sameDiscriminator
+discriminator-alike =
+    record {
+      itself = λ a. numbers-alike .itself _;
+      back = λ a b. numbers-alike .back _ _;
+      through = λ a b c p q. numbers-alike .through _ _ _ p q;
+    }
+
+fit-open : (now : ℕ) (o : Option Session) (p : Option Story) → Fit now o p → isFound o ≡ isOpen p
+fit-open now none none f = refl
+fit-open now none (some s) f = absurd f
+fit-open now (some r) none f = absurd f
+fit-open now (some r) (some s) f = refl
+
+fit-story : {now : ℕ} {r : Session} (p : Option Story) → Fit now (some r) p → (s : Story) × (p ≡ some s) × Fits now r s
+fit-story none f = absurd f
+fit-story (some s) f = (s, refl, f)
+
+fit-record : {now : ℕ} {s : Story} (o : Option Session) → Fit now o (some s) → (r : Session) × (o ≡ some r) × Fits now r s
+fit-record none f = absurd f
+fit-record (some r) f = (r, refl, f)
+
+fit-later : {now : ℕ} (later : ℕ) → now ≤ later → (o : Option Session) (p : Option Story) → Fit now o p → Fit later o p
+fit-later later h none none f = f
+fit-later later h none (some s) f = f
+fit-later later h (some r) none f = f
+fit-later later h (some r) (some s) f = fits-later later h f
+
+-- an answer behind a test
+bar-same : (b : Bool) {x y : ℕ} → (b ≡ false → x ≡ y) → bar b 1 x ≡ bar b 1 y
+bar-same true h = refl
+bar-same false h = h refl
+
+-- a reading that is not late is not below the clock
+pub not-late : (now u : ℕ) → late now u ≡ false → now ≤ u
+unfolding late
+not-late now u e = ltb-false u now (refuted (ltb u now) (λ z. true-false (or-left _ z) e))
+
+module _ (now : ℕ) where
+  same-receive : (o : Option Session) (p : Option Story) → Fit now o p → (m : List ℕ) (u : ℕ) → now ≤ u → receiveAnswer o m u ≡ receiveNumber p m u
+  same-receive none none f m u h = refl
+  same-receive none (some s) f m u h = absurd f
+  same-receive (some r) none f m u h = absurd f
+  same-receive (some r) (some s) f m u h =
+      ap (orElse (messageRefusal m))
+      (same-received f u h (receivedAs (r .settings) (messageOf m)) ∙ ap (λ (g : Settings). receivedNumber s u (receivedAs g (messageOf m))) (f .settings))
+
+  same-shown : (l : ℕ) (o : Option Session) (p : Option Story) → Fit now o p → reportAnswer (On l ReportOn) now o ≡ reportSaid (On l ReportOn) now p
+  same-shown l none none f = refl
+  same-shown l none (some s) f = absurd f
+  same-shown l (some r) none f = absurd f
+  same-shown l (some r) (some s) f = ap reporting (same-report f now (omega arith))
+
+  same-written-cc : (l : ℕ) (b : List ℕ) (o : Option Session) (p : Option Story) → Fit now o p
+      → writeAnswer (On l (WriteCc b)) (λ (r : Session). ccOctetsAt r now) b o ≡ writeSaid (On l (WriteCc b)) (ccWritten now) b p
+  same-written-cc l b none none f = refl
+  same-written-cc l b none (some s) f = absurd f
+  same-written-cc l b (some r) none f = absurd f
+  same-written-cc l b (some r) (some s) f = ap (λ (x : List ℕ). writes (writing 0 x b)) (same-cc f now (omega arith))
+
+  same-written-cv : (l : ℕ) (b : List ℕ) (o : Option Session) (p : Option Story) → Fit now o p
+      → writeAnswer (On l (WriteCv b)) (λ (r : Session). cvOctetsAt r now) b o ≡ writeSaid (On l (WriteCv b)) (cvWritten now) b p
+  same-written-cv l b none none f = refl
+  same-written-cv l b none (some s) f = absurd f
+  same-written-cv l b (some r) none f = absurd f
+  same-written-cv l b (some r) (some s) f = ap (λ (x : List ℕ). writes (writing 0 x b)) (same-cv f now (omega arith))
+
+module _ {now : ℕ} {st : ℕ → Option Story} {ls : List ℕ} {t : Table} (S : Sim now st ls t) where
+  -- each open record has its story
+  pub owned : (r : Session) → List·Memᴰ r (openOf t) → (s : Story) × (st (r .settings .label) ≡ some s) × Fits now r s
+  owned r m =
+      fit-story (st (r .settings .label))
+      (subst (λ (o : Option Session). Fit now o (st (r .settings .label))) (found-own (openOf t) r (S .labels) m) (S .fit (r .settings .label)))
+
+  all-sound : every (λ (r : Session). sessionSound r (t .clock)) (openOf t) ≡ true
+  all-sound =
+      rw
+      (refuted (any (λ (r : Session). not (sessionSound r (t .clock))) (openOf t))
+      (λ e.
+      let w = any-who (λ (r : Session). not (sessionSound r (t .clock))) (openOf t) e in
+      let f = owned (w .0) (w .1) in
+      true-false (ap (sessionSound (w .0)) (S .clock) ∙ f .2 .sound) (not-true _ (w .2))))
+
+  -- never 26
+  pub sim-order : inOrder t ≡ true
+  unfolding inOrder
+  sim-order = both-true (both-true (both-true (eq-eqb (length (t .row)) 64 (S .rows)) all-sound) (S .labels)) (S .discriminators)
+
+  -- 11: the records' rivals are the stories'
+  rival-there : (g : Settings) → any (rivals g) (openOf t) ≡ true → rival st ls g ≡ true
+  unfolding rival
+  rival-there g e =
+      let w = any-who (rivals g) (openOf t) e in
+      let f = owned (w .0) (w .1) in
+      let l = w .0 .settings .label in
+      let here : any (eqb l) ls ≡ true = S .listed l ∙ ap isOpen (f .1) in
+      let v = any-who (eqb l) ls here in
+      let same : l ≡ v .0 = eqb-true l (v .0) (v .2) in
+      any-at (λ (m : ℕ). eqb m (g .label) || hasDiscriminator (g .discriminator) (st m)) (v .1)
+      (subst (λ (m : ℕ). eqb m (g .label) || hasDiscriminator (g .discriminator) (st m) ≡ true) same
+      (⊎-elim (λ a. or-left _ a)
+      (λ a. or-right (eqb l (g .label))
+      (ap (hasDiscriminator (g .discriminator)) (f .1) ∙ ap (λ (x : Settings). eqb (x .discriminator) (g .discriminator)) (sym (f .2 .settings)) ∙ a))
+      (or-cases (eqb l (g .label)) (eqb (w .0 .settings .discriminator) (g .discriminator)) (w .2))))
+
+  rival-back : (g : Settings) → rival st ls g ≡ true → any (rivals g) (openOf t) ≡ true
+  unfolding rival
+  rival-back g e =
+      let w = any-who (λ (m : ℕ). eqb m (g .label) || hasDiscriminator (g .discriminator) (st m)) ls e in
+      let l = w .0 in
+      let open′ : isOpen (st l) ≡ true = sym (S .listed l) ∙ any-at (eqb l) (w .1) (eq-eqb l l refl) in
+      go l (st l) refl open′ (w .2)
+    where
+      go : (l : ℕ) (o : Option Story) → st l ≡ o → isOpen o ≡ true → eqb l (g .label) || hasDiscriminator (g .discriminator) (st l) ≡ true → any (rivals g) (openOf t) ≡ true
+      go l none q p k = no-way p refl
+      go l (some s) q p k =
+          let f = fit-record (find l (openOf t)) (subst (λ (o : Option Story). Fit now (find l (openOf t)) o) q (S .fit l)) in
+          let r = f .0 in
+          let found = found-is l (openOf t) r (f .1) in
+          any-at (rivals g) (found .0)
+          (⊎-elim (λ a. or-left _ (ap (λ (m : ℕ). eqb m (g .label)) (found .1) ∙ a))
+          (λ a. or-right (eqb (r .settings .label) (g .label))
+          (ap (λ (x : Settings). eqb (x .discriminator) (g .discriminator)) (f .2 .settings) ∙ (ap (hasDiscriminator (g .discriminator)) (sym q) ∙ a)))
+          (or-cases (eqb l (g .label)) (hasDiscriminator (g .discriminator) (st l)) k))
+
+  same-rivals : (g : Settings) → any (rivals g) (openOf t) ≡ rival st ls g
+  same-rivals g = same-test _ _ (rival-there g) (rival-back g)
+
+  -- 12: the places and the open labels
+  same-count : occupiedOf 64 (t .occupied) ≡ length ls
+  same-count = ap (λ (n : ℕ). occupiedOf n (t .occupied)) (sym (S .rows)) ∙ sym (count-opens (t .occupied) (t .row)) ∙ S .count
+
+  same-open : (g : Settings) (u : ℕ) → openAnswer t g u ≡ openNumber now st ls g u
+  unfolding openAnswer openNumber
+  same-open g u =
+      λ i. bar (late (S .clock i) u) 1 (need (settingsFit g) 10 (bar (same-rivals g i) 11 (bar (eqb (same-count i) 64) 12 0)))
+
+  same-act : (l : ℕ) (a : Act) (o : Option Session) (p : Option Story) → Fit now o p → actAnswer (t .clock) o l a ≡ actSaid now p l a
+  unfolding actAnswer actSaid
+  same-act l (Close u) o p f = λ i. numberOnly (On l (Close u)) (bar (late (S .clock i) u) 1 (need (fit-open now o p f i) 2 0))
+  same-act l (Lock u) o p f = λ i. numberOnly (On l (Lock u)) (bar (late (S .clock i) u) 1 (need (fit-open now o p f i) 2 0))
+  same-act l (Unlock u) o p f = λ i. numberOnly (On l (Unlock u)) (bar (late (S .clock i) u) 1 (need (fit-open now o p f i) 2 0))
+  same-act l (Receive m u) o p f =
+      (λ i. numberOnly (On l (Receive m u)) (bar (late (S .clock i) u) 1 (receiveAnswer o m u)))
+      ∙ ap (numberOnly (On l (Receive m u))) (bar-same (late now u) (λ e. same-receive now o p f m u (not-late now u e)))
+  same-act l ReportOn o p f = ap (λ (k : ℕ). reportAnswer (On l ReportOn) k o) (S .clock) ∙ same-shown now l o p f
+  same-act l (WriteCc b) o p f = ap (λ (k : ℕ). writeAnswer (On l (WriteCc b)) (λ (r : Session). ccOctetsAt r k) b o) (S .clock) ∙ same-written-cc now l b o p f
+  same-act l (WriteCv b) o p f = ap (λ (k : ℕ). writeAnswer (On l (WriteCv b)) (λ (r : Session). cvOctetsAt r k) b o) (S .clock) ∙ same-written-cv now l b o p f
+
+  -- what the table says is what the paper says
+  pub sim-asked : (c : Call) → asked t c ≡ saysOf now st ls c
+  unfolding asked saysOf
+  sim-asked (Tick u) = λ i. numberOnly (Tick u) (bar (late (S .clock i) u) 1 0)
+  sim-asked (Open g u) = ap (numberOnly (Open g u)) (same-open g u)
+  sim-asked (On l a) = same-act l a (find l (openOf t)) (st l) (S .fit l)
+
+  -- a reading that goes on
+  pub sim-tick : (u : ℕ) → now ≤ u → Sim u st ls (record { row = t .row; clock = u; occupied = t .occupied })
+  sim-tick u h =
+      record {
+        clock = refl;
+        rows = S .rows;
+        labels = S .labels;
+        discriminators = S .discriminators;
+        fit = λ l. fit-later u h (find l (openOf t)) (st l) (S .fit l);
+        count = S .count;
+        listed = S .listed;
+        once-each = S .once-each;
+      }
+
+  -- a record altered with its story
+  sim-altered : (l u : ℕ) → now ≤ u → (f : Session → Session) → ((r : Session) → f r .settings ≡ r .settings) → (tell : Option Story → Option Story)
+      → ((o : Option Story) → isOpen (tell o) ≡ isOpen o) → Fit u (Option·map f (find l (openOf t))) (tell (st l))
+      → Sim u (λ m. cond (eqb l m) (tell (st m)) (st m)) ls (altered t l f u)
+  unfolding altered
+  sim-altered l u h f k tell same e =
+      let alike = opens-altered l f absent (t .occupied) (t .row) in
+      record {
+        clock = refl;
+        rows = simp length-set (S .rows);
+        labels =
+        ap (once sameLabel) alike
+        ∙ once-update sameLabel l f (openOf t) (λ a b. ap (λ (x : Settings). eqb (x .label) (b .settings .label)) (k a)) (λ a b. ap (λ (x : Settings). eqb (a .settings .label) (x .label)) (k b))
+        ∙ S .labels;
+        discriminators =
+        ap (once sameDiscriminator) alike
+        ∙ once-update sameDiscriminator l f (openOf t) (λ a b. ap (λ (x : Settings). eqb (x .discriminator) (b .settings .discriminator)) (k a))
+        (λ a b. ap (λ (x : Settings). eqb (a .settings .discriminator) (x .discriminator)) (k b))
+        ∙ S .discriminators;
+        fit = λ m. split (eqb l m)
+        (λ q. rw q
+        (subst (λ (n : ℕ). Fit u (find n (opens (t .occupied) (set (t .row) (placeOf l (t .occupied) (t .row)) (f (getD (t .row) (placeOf l (t .occupied) (t .row)) absent))))) (tell (st n)))
+        (eqb-true l m q)
+        (subst (λ (o : Option Session). Fit u o (tell (st l))) (sym (ap (find l) alike ∙ find-update-same l f (openOf t) k)) e)))
+        (λ q. rw q
+        (subst (λ (o : Option Session). Fit u o (st m)) (sym (ap (find m) alike ∙ find-update-other l m f (openOf t) k q)) (fit-later u h (find m (openOf t)) (st m) (S .fit m))));
+        count = ap length alike ∙ length-update l f (openOf t) ∙ S .count;
+        listed = λ m. split (eqb l m) (λ q. S .listed m ∙ rw q (sym (same (st m)))) (λ q. S .listed m ∙ rw q);
+        once-each = S .once-each;
+      }
