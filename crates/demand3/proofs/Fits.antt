@@ -42,7 +42,7 @@ use Rattle.session.proofs.Sound.{sound-says, opened-sound, locked-sound, unlock
 use Rattle.meaning.specs.Stories.{Story, opened, lock, unlock, got, wroteCc, settingsOf, wasTo, isCrossed, isHeard}
 use Rattle.meaning.specs.Standing.{locked, crossing, timedFrom, multiplierOf, multiplierBy, loss, state, stateBy, stateAt, remoteDiagnostic, diagnosticBy, remoteOf, remoteBy, owed, owedBy, conditions, followed, report, diagnostic, packet, ccWritten, cvWritten}
 use Rattle.meaning.specs.Answers.{receivedNumber}
-use Rattle.demand3.proofs.Places.{Kept, kept-opened, kept-later, kept-lock, kept-unlock, kept-wrote, kept-crossed, kept-heard-cc, kept-heard-cv, kept-fault, kept-count, kept-followed, kept-crowded}
+use Rattle.demand3.proofs.Places.{Kept, kept-opened, kept-later, kept-lock, kept-unlock, kept-wrote, kept-crossed, kept-cc, kept-cv, kept-fault, kept-count, kept-followed, kept-crowded}
 use Rattle.demand3.proofs.Read.{Good}
 
 -- no input locks or unlocks a session
@@ -292,7 +292,7 @@ module _ {now : ℕ} (m : Message) (u : ℕ) {r : Session} {s : Story} (h : now 
         reply = rw e (bit-back (p .poll || eqb (r .peer .owed) 1) _ refl ∙ ap (λ (b : Bool). p .poll || b) (f .reply));
         state = after-state (HeardCc p) (moved (recordStateAt r u) (received (p .state))) e (ap (λ (x : State). moved x (received (p .state))) (same-state f u));
         crossing = λ t k. rw e (f .crossing t (omega arith));
-        places = kept-heard-cc m u p e (kept-later now u h (f .places));
+        places = kept-cc m u p e (kept-later now u h (f .places));
         sound = heard-cc-sound r now u h (f .sound) p (g .0) (g .1) (g .2);
       }
 
@@ -308,7 +308,7 @@ module _ {now : ℕ} (m : Message) (u : ℕ) {r : Session} {s : Story} (h : now 
         reply = rw e (f .reply);
         state = after-state HeardCv (recordStateAt r u) e (same-state f u);
         crossing = λ t k. rw e (f .crossing t (omega arith));
-        places = kept-heard-cv m u e (kept-later now u h (f .places));
+        places = kept-cv m u e (kept-later now u h (f .places));
         sound = heard-cv-sound r now u h (f .sound);
       }
 

@@ -1,6 +1,6 @@
 -- The table and the history: what both say, call by call.
 -- Assumes nothing.
-use Prim.Native.Nat.{ℕ, suc, _+_, _≤_, _<_}
+use Prim.Native.Nat.{ℕ, suc, _+_, _-_, _^_, _≤_, _<_}
 use native.Mathlib.Omega.{arith}
 use mathlib.Core.Path.{_≡_, refl, sym, ap, _∙_, subst}
 use mathlib.Core.Bool.{Bool, true, false, cond, not, _&&_, _||_}
@@ -57,17 +57,17 @@ pub record Sim (now : ℕ) (st : ℕ → Option Story) (ls : List ℕ) (t : Tabl
 label-alike : Alike sameLabel
 label-alike =
     record {
-      itself = λ a. numbers-alike .itself _;
-      back = λ a b. numbers-alike .back _ _;
-      through = λ a b c p q. numbers-alike .through _ _ _ p q;
+      itself = λ a. numbers-alike .itself (a .settings .label);
+      back = λ a b. numbers-alike .back (a .settings .label) (b .settings .label);
+      through = λ a b c p q. numbers-alike .through (a .settings .label) (b .settings .label) (c .settings .label) p q;
     }
 
 discriminator-alike : Alike sameDiscriminator
 discriminator-alike =
     record {
-      itself = λ a. numbers-alike .itself _;
-      back = λ a b. numbers-alike .back _ _;
-      through = λ a b c p q. numbers-alike .through _ _ _ p q;
+      itself = λ a. numbers-alike .itself (a .settings .discriminator);
+      back = λ a b. numbers-alike .back (a .settings .discriminator) (b .settings .discriminator);
+      through = λ a b c p q. numbers-alike .through (a .settings .discriminator) (b .settings .discriminator) (c .settings .discriminator) p q;
     }
 
 fit-open : (now : ℕ) (o : Option Session) (p : Option Story) → Fit now o p → isFound o ≡ isOpen p
@@ -261,4 +261,81 @@ module _ {now : ℕ} {st : ℕ → Option Story} {ls : List ℕ} {t : Table} (S 
         count = ap length alike ∙ length-update l f (openOf t) ∙ S .count;
         listed = λ m. split (eqb l m) (λ q. S .listed m ∙ rw q (sym (same (st m)))) (λ q. S .listed m ∙ rw q);
         once-each = S .once-each;
+      }
+
+  -- no open record has the label or the discriminator of settings without a rival
+  no-label : (g : Settings) → any (rivals g) (openOf t) ≡ false → any (hasLabel (g .label)) (openOf t) ≡ false
+  no-label g e =
+      refuted (any (hasLabel (g .label)) (openOf t))
+      (λ z. let w = any-who (hasLabel (g .label)) (openOf t) z in true-false (any-at (rivals g) (w .1) (or-left _ (w .2))) e)
+
+  no-discriminator : (g : Settings) (r : Session) → r .settings ≡ g → any (rivals g) (openOf t) ≡ false → any (sameDiscriminator r) (openOf t) ≡ false
+  no-discriminator g r k e =
+      refuted (any (sameDiscriminator r) (openOf t))
+      (λ z.
+      let w = any-who (sameDiscriminator r) (openOf t) z in
+      true-false
+      (any-at (rivals g) (w .1)
+      (or-right (eqb (w .0 .settings .label) (g .label))
+      (numbers-alike .back (w .0 .settings .discriminator) (g .discriminator) ∙ ap (λ (x : Settings). eqb (x .discriminator) (w .0 .settings .discriminator)) (sym k) ∙ w .2)))
+      e)
+
+  label-free : (g : Settings) → any (rivals g) (openOf t) ≡ false → any (eqb (g .label)) ls ≡ false
+  label-free g e =
+      S .listed (g .label) ∙ sym (fit-open now (find (g .label) (openOf t)) (st (g .label)) (S .fit (g .label)))
+      ∙ ap isFound (none-found (g .label) (openOf t) (no-label g e))
+
+  sim-added : (g : Settings) (u : ℕ) → now ≤ u → settingsFit g ≡ true → any (rivals g) (openOf t) ≡ false → (occupiedOf 64 (t .occupied) ≡ 64 → ⊥)
+      → Sim u (λ m. told m (Open g u) (st m)) (g .label ∷ ls) (added t g u)
+  unfolding added Steps.opened any
+  sim-added g u h ok free room =
+      let n = Steps.opened g u in
+      let i : Inserted n (openOf t) (openOf (added t g u)) = opens-added n 64 (t .occupied) (t .row) (S .rows) (free-exists 64 (t .occupied) room) in
+      let unlike : any (sameLabel n) (openOf t) ≡ false =
+      any-same (sameLabel n) (hasLabel (g .label)) (λ r. numbers-alike .back (g .label) (r .settings .label)) (openOf t) ∙ no-label g free in
+      record {
+        clock = refl;
+        rows = simp length-set (S .rows);
+        labels = once-inserted sameLabel label-alike i ∙ (λ j. not (unlike j) && S .labels j);
+        discriminators = once-inserted sameDiscriminator discriminator-alike i ∙ (λ j. not (no-discriminator g n refl free j) && S .discriminators j);
+        fit = λ m. split (eqb (g .label) m)
+        (λ q. rw q
+        (subst (λ (k : ℕ). Fit u (find k (openOf (added t g u))) (some (opened g u))) (eqb-true (g .label) m q)
+        (subst (λ (o : Option Session). Fit u o (some (opened g u))) (sym (find-inserted-own i (no-label g free))) (fits-opened g u ok))))
+        (λ q. rw q
+        (subst (λ (o : Option Session). Fit u o (st m)) (sym (find-inserted-other m i q)) (fit-later u h (find m (openOf t)) (st m) (S .fit m))));
+        count = length-inserted i ∙ ap suc (S .count);
+        listed = λ m. split (eqb (g .label) m)
+        (λ q. rw (q, numbers-alike .back m (g .label) ∙ q))
+        (λ q. rw (q, numbers-alike .back m (g .label) ∙ q) (S .listed m));
+        once-each = once-cons eqb numbers-alike (g .label) ls (label-free g free) (S .once-each);
+      }
+
+  sim-closed : (l u : ℕ) (r : Session) → now ≤ u → find l (openOf t) ≡ some r
+      → Sim u (λ m. told m (On l (Close u)) (st m)) (without eqb l ls) (closed t l u)
+  unfolding closed
+  sim-closed l u r h e =
+      let rest = opens (t .occupied - 2 ^ placeOf l (t .occupied) (t .row)) (t .row) in
+      let i : Inserted r rest (openOf t) = opens-closed l (t .occupied) (t .row) r e in
+      let label : r .settings .label ≡ l = found-is l (openOf t) r e .1 in
+      let a = and-both (not (any (sameLabel r) rest)) (once sameLabel rest) (sym (once-inserted sameLabel label-alike i) ∙ S .labels) in
+      let d = and-both (not (any (sameDiscriminator r) rest)) (once sameDiscriminator rest) (sym (once-inserted sameDiscriminator discriminator-alike i) ∙ S .discriminators) in
+      let gone : any (hasLabel l) rest ≡ false =
+      any-same (hasLabel l) (sameLabel r) (λ x. numbers-alike .back (x .settings .label) l ∙ ap (λ (k : ℕ). eqb k (x .settings .label)) (sym label)) rest ∙ not-true _ (a .0) in
+      let there′ : any (eqb l) ls ≡ true =
+      S .listed l ∙ sym (fit-open now (find l (openOf t)) (st l) (S .fit l)) ∙ ap isFound e in
+      record {
+        clock = refl;
+        rows = S .rows;
+        labels = a .1;
+        discriminators = d .1;
+        fit = λ m. split (eqb l m)
+        (λ q. rw q (subst (λ (o : Option Session). Fit u o none) (sym (ap (λ (k : ℕ). find k rest) (sym (eqb-true l m q)) ∙ none-found l rest gone)) tt))
+        (λ q. rw q
+        (subst (λ (o : Option Session). Fit u o (st m)) (find-inserted-other m i (ap (λ (k : ℕ). eqb k m) label ∙ q)) (fit-later u h (find m (openOf t)) (st m) (S .fit m))));
+        count = omega (arith, length-inserted i, S .count, length-without eqb numbers-alike l ls there′);
+        listed = λ m. split (eqb l m)
+        (λ q. rw q (ap (λ (k : ℕ). any (eqb k) (without eqb l ls)) (sym (eqb-true l m q)) ∙ any-without-same eqb numbers-alike l ls (S .once-each)))
+        (λ q. rw q (any-without-other eqb numbers-alike l m ls q ∙ S .listed m));
+        once-each = once-without eqb numbers-alike l ls (S .once-each);
       }
