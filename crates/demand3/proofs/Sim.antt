@@ -15,6 +15,8 @@ use Rattle.octets.specs.Writing.{writing}
 use Rattle.octets.proofs.Chain.{and-both, need-passed, bar-passed, orElse-passed}
 use Rattle.message.specs.Message.{messageRefusal, messageOf}
 use Rattle.rules.specs.declared.Settings.{Settings}
+use Rattle.rules.specs.declared.Received.{Received}
+use Rattle.rules.specs.declared.Received.the-variants.{CrossedMessage, HeardCc, HeardCv, FaultMessage}
 use Rattle.rules.specs.Times.{late}
 use Rattle.rules.specs.Settings.{settingsFit}
 use Rattle.rules.specs.Received.{receivedAs}
@@ -25,6 +27,7 @@ use Rattle.rules.proofs.Lists.{Inserted, any-inserted, length-inserted, once-in
 use Rattle.session.specs.declared.Session.{Session}
 use Rattle.session.specs.Steps as Steps
 use Rattle.session.specs.Queries.{reportAt, ccOctetsAt, cvOctetsAt}
+use Rattle.session.specs.Reception.{receivedAnswer, receivedBy}
 use Rattle.session.specs.Soundness.{sessionSound}
 use Rattle.table.specs.Places.{lowestFree, occupiedOf, opens, hasLabel, placeOf}
 use Rattle.table.specs.Table.{Table, openOf, receiveAnswer, reportAnswer, writeAnswer, sameLabel, sameDiscriminator, every, inOrder, find, isFound, rivals, openAnswer, actAnswer, asked, answer, altered, added, closed, receiving, actDone, done, next, absent}
@@ -339,3 +342,103 @@ module _ {now : ℕ} {st : ℕ → Option Story} {ls : List ℕ} {t : Table} (S 
         (λ q. rw q (any-without-other eqb numbers-alike l m ls q ∙ S .listed m));
         once-each = once-without eqb numbers-alike l ls (S .once-each);
       }
+
+-- an alteration and a story's next event, where both are there
+fit-map : {now : ℕ} (u : ℕ) (f : Session → Session) (g : Story → Story) → ((r : Session) (s : Story) → Fits now r s → Fits u (f r) (g s))
+    → (o : Option Session) (p : Option Story) → Fit now o p → Fit u (Option·map f o) (more g p)
+fit-map u f g k none none e = tt
+fit-map u f g k none (some s) e = absurd e
+fit-map u f g k (some r) none e = absurd e
+fit-map u f g k (some r) (some s) e = k r s e
+
+fit-receive : {now : ℕ} (m : List ℕ) (u : ℕ) → now ≤ u → (o : Option Session) (p : Option Story) → Fit now o p → receiveAnswer o m u ≡ 0
+    → Fit u (Option·map (receiving m u) o) (more (λ s. got s (messageOf m) u) p)
+fit-receive m u h none none e a = tt
+fit-receive m u h none (some s) e a = absurd e
+fit-receive m u h (some r) none e a = absurd e
+fit-receive m u h (some r) (some s) e a =
+    let x = receivedAs (r .settings) (messageOf m) in
+    let b = orElse-passed (messageRefusal m) (receivedAnswer r u x) a in
+    fits-got (messageOf m) u h e x (ap (λ (g : Settings). receivedAs g (messageOf m)) (sym (e .settings))) (read-good m (b .0)) (b .1)
+
+more-open : (g : Story → Story) (o : Option Story) → isOpen (more g o) ≡ isOpen o
+more-open g none = refl
+more-open g (some s) = refl
+
+receiving-keeps : (m : List ℕ) (u : ℕ) (r : Session) → receiving m u r .settings ≡ r .settings
+receiving-keeps m u r = go (receivedAs (r .settings) (messageOf m))
+  where
+    go : (x : Received) → receivedBy r u x .settings ≡ r .settings
+    go CrossedMessage = unfold Steps.crossedAt in refl
+    go (HeardCc p) = unfold Steps.heardCc in refl
+    go HeardCv = unfold Steps.heardCv in refl
+    go (FaultMessage f) = unfold Steps.faultTaken in refl
+
+-- stories that are the same, label by label
+sim-same : {now : ℕ} {st st′ : ℕ → Option Story} {ls : List ℕ} {t : Table} → ((m : ℕ) → st m ≡ st′ m) → Sim now st ls t → Sim now st′ ls t
+sim-same {now} {st} {st′} {ls} {t} e S =
+    record {
+      clock = S .clock;
+      rows = S .rows;
+      labels = S .labels;
+      discriminators = S .discriminators;
+      fit = λ m. subst (λ (p : Option Story). Fit now (find m (openOf t)) p) (e m) (S .fit m);
+      count = S .count;
+      listed = λ m. S .listed m ∙ ap isOpen (e m);
+      once-each = S .once-each;
+    }
+
+both-same : (b : Bool) {o : Option Story} → o ≡ cond b o o
+both-same true = refl
+both-same false = refl
+
+-- a found record, from the answer that asks for one
+found-some : (o : Option Session) → isFound o ≡ true → (r : Session) × (o ≡ some r)
+found-some none e = no-way e refl
+found-some (some r) e = (r, refl)
+
+module _ {now : ℕ} {st : ℕ → Option Story} {ls : List ℕ} {t : Table} (S : Sim now st ls t) where
+  in-time : (u : ℕ) → late (t .clock) u ≡ false → now ≤ u
+  in-time u e = not-late now u (ap (λ (k : ℕ). late k u) (sym (S .clock)) ∙ e)
+
+  -- what an accepted call leaves
+  act-done : (l : ℕ) (a : Act) → isAccepted (actAnswer (t .clock) (find l (openOf t)) l a) ≡ true
+      → Sim (actReading a now) (λ m. told m (On l a) (st m)) (actLabels l a ls) (actDone t l a)
+  unfolding actAnswer actDone
+  act-done l (Close u) e =
+      let b = bar-passed (late (t .clock) u) 0 (need (isFound (find l (openOf t))) 2 0) (eqb-true _ 0 e) in
+      let c = need-passed (isFound (find l (openOf t))) 1 0 (b .1) in
+      let r = found-some (find l (openOf t)) (c .0) in
+      sim-closed S l u (r .0) (in-time u (b .0)) (r .1)
+  act-done l (Lock u) e =
+      let b = bar-passed (late (t .clock) u) 0 (need (isFound (find l (openOf t))) 2 0) (eqb-true _ 0 e) in
+      let h = in-time u (b .0) in
+      sim-altered S l u h Steps.lockedBy (λ r. unfold Steps.lockedBy in refl) (more (λ s. lock s u)) (more-open (λ s. lock s u))
+      (fit-map u Steps.lockedBy (λ s. lock s u) (λ r s f. fits-locked u h f) (find l (openOf t)) (st l) (S .fit l))
+  act-done l (Unlock u) e =
+      let b = bar-passed (late (t .clock) u) 0 (need (isFound (find l (openOf t))) 2 0) (eqb-true _ 0 e) in
+      let h = in-time u (b .0) in
+      sim-altered S l u h (λ r. Steps.unlockedAt r u) (λ r. unfold Steps.unlockedAt in refl) (more (λ s. unlock s u)) (more-open (λ s. unlock s u))
+      (fit-map u (λ r. Steps.unlockedAt r u) (λ s. unlock s u) (λ r s f. fits-unlocked u h f) (find l (openOf t)) (st l) (S .fit l))
+  act-done l (Receive m u) e =
+      let b = bar-passed (late (t .clock) u) 0 (receiveAnswer (find l (openOf t)) m u) (eqb-true _ 0 e) in
+      let h = in-time u (b .0) in
+      sim-altered S l u h (receiving m u) (receiving-keeps m u) (more (λ s. got s (messageOf m) u)) (more-open (λ s. got s (messageOf m) u))
+      (fit-receive m u h (find l (openOf t)) (st l) (S .fit l) (b .1))
+  act-done l ReportOn e = sim-same (λ m. both-same (eqb l m)) S
+  act-done l (WriteCc b) e =
+      subst (λ (k : ℕ). Sim now (λ m. told m (On l (WriteCc b)) (st m)) ls (altered t l Steps.ccWritten k)) (sym (S .clock))
+      (sim-altered S l now (omega arith) Steps.ccWritten (λ r. unfold Steps.ccWritten in refl) (more wroteCc) (more-open wroteCc)
+      (fit-map now Steps.ccWritten wroteCc (λ r s f. fits-wrote f) (find l (openOf t)) (st l) (S .fit l)))
+  act-done l (WriteCv b) e = sim-same (λ m. both-same (eqb l m)) S
+
+  pub sim-done : (c : Call) → isAccepted (asked t c) ≡ true → Sim (reading c now) (λ m. told m c (st m)) (labelsAfter c ls) (done t c)
+  unfolding asked done openAnswer
+  sim-done (Tick u) e = sim-tick S u (in-time u (bar-passed (late (t .clock) u) 0 0 (eqb-true _ 0 e) .0))
+  sim-done (Open g u) e =
+      let b = bar-passed (late (t .clock) u) 0 (need (settingsFit g) 10 (bar (any (rivals g) (openOf t)) 11 (bar (eqb (occupiedOf 64 (t .occupied)) 64) 12 0))) (eqb-true _ 0 e) in
+      let c = need-passed (settingsFit g) 9 (bar (any (rivals g) (openOf t)) 11 (bar (eqb (occupiedOf 64 (t .occupied)) 64) 12 0)) (b .1) in
+      let d = bar-passed (any (rivals g) (openOf t)) 10 (bar (eqb (occupiedOf 64 (t .occupied)) 64) 12 0) (c .1) in
+      let f = bar-passed (eqb (occupiedOf 64 (t .occupied)) 64) 11 0 (d .1) in
+      sim-added S g u (in-time u (b .0)) (c .0) (d .0) (eqb-false _ 64 (f .0))
+  sim-done (On l a) e = act-done l a e
