@@ -356,8 +356,8 @@ module _ {now : ℕ} (m : Message) (u : ℕ) {r : Session} {s : Story} (h : now 
         remote = rw e (f .remote);
         reply = rw e (f .reply);
         state =
-        after-state (FaultMessage x) (faultState (actsOn (r .settings) x) (recordStateAt r u) (x .kind)) e
-        (λ i. faultState (actsOn (f .settings i) x) (same-state f u i) (x .kind));
+            after-state (FaultMessage x) (faultState (actsOn (r .settings) x) (recordStateAt r u) (x .kind)) e
+            (λ i. faultState (actsOn (f .settings i) x) (same-state f u i) (x .kind));
         crossing = λ t k. rw e (f .crossing t (omega arith));
         places = kept-fault m x u h (g .0) e a (f .places);
         sound = fault-sound r now u h (f .sound) x (g .1) (g .2) (g .3);

@@ -246,21 +246,21 @@ module _ {now : ℕ} {st : ℕ → Option Story} {ls : List ℕ} {t : Table} (S 
         clock = refl;
         rows = simp length-set (S .rows);
         labels =
-        ap (once sameLabel) alike
-        ∙ once-update sameLabel l f (openOf t) (λ a b. ap (λ (x : Settings). eqb (x .label) (b .settings .label)) (k a)) (λ a b. ap (λ (x : Settings). eqb (a .settings .label) (x .label)) (k b))
-        ∙ S .labels;
+            ap (once sameLabel) alike
+            ∙ once-update sameLabel l f (openOf t) (λ a b. ap (λ (x : Settings). eqb (x .label) (b .settings .label)) (k a)) (λ a b. ap (λ (x : Settings). eqb (a .settings .label) (x .label)) (k b))
+            ∙ S .labels;
         discriminators =
-        ap (once sameDiscriminator) alike
-        ∙ once-update sameDiscriminator l f (openOf t) (λ a b. ap (λ (x : Settings). eqb (x .discriminator) (b .settings .discriminator)) (k a))
-        (λ a b. ap (λ (x : Settings). eqb (a .settings .discriminator) (x .discriminator)) (k b))
-        ∙ S .discriminators;
+            ap (once sameDiscriminator) alike
+            ∙ once-update sameDiscriminator l f (openOf t) (λ a b. ap (λ (x : Settings). eqb (x .discriminator) (b .settings .discriminator)) (k a))
+            (λ a b. ap (λ (x : Settings). eqb (a .settings .discriminator) (x .discriminator)) (k b))
+            ∙ S .discriminators;
         fit = λ m. split (eqb l m)
-        (λ q. rw q
-        (subst (λ (n : ℕ). Fit u (find n (opens (t .occupied) (set (t .row) (placeOf l (t .occupied) (t .row)) (f (getD (t .row) (placeOf l (t .occupied) (t .row)) absent))))) (tell (st n)))
-        (eqb-true l m q)
-        (subst (λ (o : Option Session). Fit u o (tell (st l))) (sym (ap (find l) alike ∙ find-update-same l f (openOf t) k)) e)))
-        (λ q. rw q
-        (subst (λ (o : Option Session). Fit u o (st m)) (sym (ap (find m) alike ∙ find-update-other l m f (openOf t) k q)) (fit-later u h (find m (openOf t)) (st m) (S .fit m))));
+            (λ q. rw q
+            (subst (λ (n : ℕ). Fit u (find n (opens (t .occupied) (set (t .row) (placeOf l (t .occupied) (t .row)) (f (getD (t .row) (placeOf l (t .occupied) (t .row)) absent))))) (tell (st n)))
+            (eqb-true l m q)
+            (subst (λ (o : Option Session). Fit u o (tell (st l))) (sym (ap (find l) alike ∙ find-update-same l f (openOf t) k)) e)))
+            (λ q. rw q
+            (subst (λ (o : Option Session). Fit u o (st m)) (sym (ap (find m) alike ∙ find-update-other l m f (openOf t) k q)) (fit-later u h (find m (openOf t)) (st m) (S .fit m))));
         count = ap length alike ∙ length-update l f (openOf t) ∙ S .count;
         listed = λ m. split (eqb l m) (λ q. S .listed m ∙ rw q (sym (same (st m)))) (λ q. S .listed m ∙ rw q);
         once-each = S .once-each;
@@ -302,15 +302,15 @@ module _ {now : ℕ} {st : ℕ → Option Story} {ls : List ℕ} {t : Table} (S 
         labels = once-inserted sameLabel label-alike i ∙ (λ j. not (unlike j) && S .labels j);
         discriminators = once-inserted sameDiscriminator discriminator-alike i ∙ (λ j. not (no-discriminator g n refl free j) && S .discriminators j);
         fit = λ m. split (eqb (g .label) m)
-        (λ q. rw q
-        (subst (λ (k : ℕ). Fit u (find k (openOf (added t g u))) (some (opened g u))) (eqb-true (g .label) m q)
-        (subst (λ (o : Option Session). Fit u o (some (opened g u))) (sym (find-inserted-own i (no-label g free))) (fits-opened g u ok))))
-        (λ q. rw q
-        (subst (λ (o : Option Session). Fit u o (st m)) (sym (find-inserted-other m i q)) (fit-later u h (find m (openOf t)) (st m) (S .fit m))));
+            (λ q. rw q
+            (subst (λ (k : ℕ). Fit u (find k (openOf (added t g u))) (some (opened g u))) (eqb-true (g .label) m q)
+            (subst (λ (o : Option Session). Fit u o (some (opened g u))) (sym (find-inserted-own i (no-label g free))) (fits-opened g u ok))))
+            (λ q. rw q
+            (subst (λ (o : Option Session). Fit u o (st m)) (sym (find-inserted-other m i q)) (fit-later u h (find m (openOf t)) (st m) (S .fit m))));
         count = length-inserted i ∙ ap suc (S .count);
         listed = λ m. split (eqb (g .label) m)
-        (λ q. rw (q, numbers-alike .back m (g .label) ∙ q))
-        (λ q. rw (q, numbers-alike .back m (g .label) ∙ q) (S .listed m));
+            (λ q. rw (q, numbers-alike .back m (g .label) ∙ q))
+            (λ q. rw (q, numbers-alike .back m (g .label) ∙ q) (S .listed m));
         once-each = once-cons eqb numbers-alike (g .label) ls (label-free g free) (S .once-each);
       }
 
@@ -333,13 +333,13 @@ module _ {now : ℕ} {st : ℕ → Option Story} {ls : List ℕ} {t : Table} (S 
         labels = a .1;
         discriminators = d .1;
         fit = λ m. split (eqb l m)
-        (λ q. rw q (subst (λ (o : Option Session). Fit u o none) (sym (ap (λ (k : ℕ). find k rest) (sym (eqb-true l m q)) ∙ none-found l rest gone)) tt))
-        (λ q. rw q
-        (subst (λ (o : Option Session). Fit u o (st m)) (find-inserted-other m i (ap (λ (k : ℕ). eqb k m) label ∙ q)) (fit-later u h (find m (openOf t)) (st m) (S .fit m))));
+            (λ q. rw q (subst (λ (o : Option Session). Fit u o none) (sym (ap (λ (k : ℕ). find k rest) (sym (eqb-true l m q)) ∙ none-found l rest gone)) tt))
+            (λ q. rw q
+            (subst (λ (o : Option Session). Fit u o (st m)) (find-inserted-other m i (ap (λ (k : ℕ). eqb k m) label ∙ q)) (fit-later u h (find m (openOf t)) (st m) (S .fit m))));
         count = omega (arith, length-inserted i, S .count, length-without eqb numbers-alike l ls there′);
         listed = λ m. split (eqb l m)
-        (λ q. rw q (ap (λ (k : ℕ). any (eqb k) (without eqb l ls)) (sym (eqb-true l m q)) ∙ any-without-same eqb numbers-alike l ls (S .once-each)))
-        (λ q. rw q (any-without-other eqb numbers-alike l m ls q ∙ S .listed m));
+            (λ q. rw q (ap (λ (k : ℕ). any (eqb k) (without eqb l ls)) (sym (eqb-true l m q)) ∙ any-without-same eqb numbers-alike l ls (S .once-each)))
+            (λ q. rw q (any-without-other eqb numbers-alike l m ls q ∙ S .listed m));
         once-each = once-without eqb numbers-alike l ls (S .once-each);
       }
 

@@ -2,3 +2,4 @@ pub mod Stories
 pub mod Standing
 pub mod Histories
 pub mod Answers
+pub mod Accounts

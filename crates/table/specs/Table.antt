@@ -100,9 +100,13 @@ abbrev pub absent : Session
 absent =
     opened
     (record {
-      label = 0; discriminator = 0; period = 0; link = 0; lock = 0;
+      label = 0;
+      discriminator = 0;
+      period = 0;
+      link = 0;
+      lock = 0;
       own = record { kind = 0; global = 0; node = 0; local = 0 };
-      expected = record { kind = 0; global = 0; node = 0; local = 0 }
+      expected = record { kind = 0; global = 0; node = 0; local = 0 };
     })
     0
 
