@@ -3,9 +3,11 @@
 use mathlib.Core.Path.{_≡_, _∙_}
 use mathlib.Core.List.{List}
 use Prim.Native.Nat.{ℕ, _/_, _%_, _≤_}
+use native.Mathlib.Omega.{arith}
 use lib.ListN.{length, getD}
+use lib.Dec.{ltb, eqb}
 use borrow.Author.Tests.{ltb-false, eqb-true, le-ltb, eq-eqb}
-use Rattle.octets.proofs.Chain.{need-passed, bar-passed, orElse-passed}
+use Rattle.octets.proofs.Chain.{need-passed, bar-passed, orElse-passed, need-most, bar-most}
 use Rattle.gach.specs.Header.{channelOf, headerRefusal, channelRefusal}
 
 pub record ChannelSays (own : ℕ) (m : List ℕ) : Type 0 where
@@ -33,3 +35,15 @@ pub channel-passes : (own : ℕ) (m : List ℕ) → ChannelSays own m → channe
 unfolding headerRefusal channelRefusal
 channel-passes own m s =
     rw (le-ltb (length m) 4 (s .long), eq-eqb _ _ (s .nibble), eq-eqb _ _ (s .version), eq-eqb _ _ (s .channel))
+
+-- no refusal of a header is above 5
+pub header-most : (m : List ℕ) → headerRefusal m ≤ 5
+unfolding headerRefusal
+header-most m =
+    bar-most 5 (ltb (length m) 4) (omega arith)
+    (need-most 5 (eqb (getD m 0 0 / 16) 1) (omega arith) (need-most 5 (eqb (getD m 0 0 % 16) 0) (omega arith) (omega arith)))
+
+pub channel-most : (own : ℕ) (m : List ℕ) → channelRefusal own m ≤ 5
+unfolding channelRefusal
+channel-most own m =
+    need-most 5 (eqb (headerRefusal m) 0) (header-most m) (need-most 5 (eqb (channelOf m) own) (omega arith) (omega arith))

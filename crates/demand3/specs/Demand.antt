@@ -1,0 +1,38 @@
+-- Demand 3: one statement about every list of calls, refused ones included, from any row of 64 made empty.
+-- Assumes nothing.
+use Prim.Native.Nat.{ℕ}
+use mathlib.Core.Path.{_≡_}
+use mathlib.Core.Bool.{true}
+use mathlib.Core.Option.{some}
+use mathlib.Core.List.{List, List·Memᴰ}
+use lib.ListN.{length}
+use lib.Dec.{eqb}
+use Rattle.rules.specs.Lists.{once}
+use Rattle.rules.specs.Calls.{Call, On, ReportOn, reporting}
+use Rattle.session.specs.declared.Session.{Session}
+use Rattle.table.specs.Places.{occupiedOf}
+use Rattle.table.specs.Table.{Table, openOf, sameLabel, sameDiscriminator, answer}
+use Rattle.meaning.specs.Stories.{Story, settingsOf}
+use Rattle.meaning.specs.Standing.{report}
+use Rattle.meaning.specs.Histories.{clockOf, story, labels}
+use Rattle.demand3.specs.Worlds.{pastOf, tableOf, Right, Never}
+use Rattle.demand3.specs.Lives.{Made, lives, askedIn}
+
+pub record Demand3 (row : List Session) (cs : List Call) : Type 0 where
+  -- each answer, report and buffer is the one that the rules paper gives; none is 26
+  pub answers : Right (pastOf row cs)
+  pub never-26 : Never 26 (pastOf row cs)
+  -- after the list, the report on every open label is what its story means at the clock
+  pub reports : (l : ℕ) (s : Story) → story l (pastOf row cs) ≡ some s
+      → answer (tableOf row cs) (On l ReportOn) ≡ reporting (report (clockOf (pastOf row cs)) s)
+  -- whatever the calls on other labels: two lives in which the same is asked, with the same clock before each call, are told the same
+  pub untouched : (other : List Session) → length other ≡ 64 → (ds : List Call) (l : ℕ) (x y : List Made)
+      → List·Memᴰ x (lives l (pastOf row cs)) → List·Memᴰ y (lives l (pastOf other ds)) → askedIn x ≡ askedIn y → x ≡ y
+  -- no two open sessions share a label or a discriminator
+  pub once-each : once eqb (labels (pastOf row cs)) ≡ true
+  pub unshared : (l m : ℕ) (s u : Story) → story l (pastOf row cs) ≡ some s → story m (pastOf row cs) ≡ some u
+      → settingsOf s .discriminator ≡ settingsOf u .discriminator → l ≡ m
+  -- nor do two occupied places of the row, and the set's ones are the open labels' number
+  pub row-labels : once sameLabel (openOf (tableOf row cs)) ≡ true
+  pub row-discriminators : once sameDiscriminator (openOf (tableOf row cs)) ≡ true
+  pub row-count : occupiedOf 64 (tableOf row cs .occupied) ≡ length (labels (pastOf row cs))

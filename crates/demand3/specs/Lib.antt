@@ -1,0 +1,3 @@
+pub mod Worlds
+pub mod Lives
+pub mod Demand
