@@ -83,7 +83,7 @@ fit-story : {now : ℕ} {r : Session} (p : Option Story) → Fit now (some r) p 
 fit-story none f = absurd f
 fit-story (some s) f = (s, refl, f)
 
-fit-record : {now : ℕ} {s : Story} (o : Option Session) → Fit now o (some s) → (r : Session) × (o ≡ some r) × Fits now r s
+pub fit-record : {now : ℕ} {s : Story} (o : Option Session) → Fit now o (some s) → (r : Session) × (o ≡ some r) × Fits now r s
 fit-record none f = absurd f
 fit-record (some r) f = (r, refl, f)
 
@@ -194,7 +194,7 @@ module _ {now : ℕ} {st : ℕ → Option Story} {ls : List ℕ} {t : Table} (S 
   same-rivals g = same-test _ _ (rival-there g) (rival-back g)
 
   -- 12: the places and the open labels
-  same-count : occupiedOf 64 (t .occupied) ≡ length ls
+  pub same-count : occupiedOf 64 (t .occupied) ≡ length ls
   same-count = ap (λ (n : ℕ). occupiedOf n (t .occupied)) (sym (S .rows)) ∙ sym (count-opens (t .occupied) (t .row)) ∙ S .count
 
   same-open : (g : Settings) (u : ℕ) → openAnswer t g u ≡ openNumber now st ls g u
@@ -375,7 +375,7 @@ receiving-keeps m u r = go (receivedAs (r .settings) (messageOf m))
     go (FaultMessage f) = unfold Steps.faultTaken in refl
 
 -- stories that are the same, label by label
-sim-same : {now : ℕ} {st st′ : ℕ → Option Story} {ls : List ℕ} {t : Table} → ((m : ℕ) → st m ≡ st′ m) → Sim now st ls t → Sim now st′ ls t
+pub sim-same : {now : ℕ} {st st′ : ℕ → Option Story} {ls : List ℕ} {t : Table} → ((m : ℕ) → st m ≡ st′ m) → Sim now st ls t → Sim now st′ ls t
 sim-same {now} {st} {st′} {ls} {t} e S =
     record {
       clock = S .clock;

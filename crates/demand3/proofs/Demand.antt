@@ -1,0 +1,154 @@
+-- Demand 3, proved.
+-- Assumes nothing.
+use Prim.Native.Nat.{ℕ, _≤_}
+use native.Mathlib.Omega.{arith}
+use mathlib.Core.Path.{_≡_, refl, sym, ap, _∙_, subst}
+use mathlib.Core.Bool.{Bool, true, false, cond, not, _&&_}
+use mathlib.Core.Option.{Option, none, some}
+use mathlib.Core.List.{List, [], _∷_, List·Memᴰ, List·Memᴰ·head, List·Memᴰ·tail}
+use lib.ListN.{length}
+use lib.Dec.{eqb}
+use borrow.Author.Tests.{eqb-true, eq-eqb, not-true}
+use Rattle.octets.proofs.Chain.{and-both}
+use Rattle.rules.specs.declared.Settings.{Settings}
+use Rattle.rules.specs.Lists.{any, once}
+use Rattle.rules.specs.Calls.{Call, On, ReportOn, Said, isAccepted, numberOnly, reporting}
+use Rattle.rules.proofs.Bools.{split, no-way}
+use Rattle.rules.proofs.Lists.{any-at, numbers-alike}
+use Rattle.session.specs.declared.Session.{Session}
+use Rattle.table.specs.Places.{occupiedOf, opens}
+use Rattle.table.specs.Table.{Table, openOf, sameLabel, sameDiscriminator, inOrder, find, asked, answer, done, next, emptied}
+use Rattle.table.proofs.Rows.{found-is, count-opens}
+use Rattle.meaning.specs.Stories.{Story, settingsOf}
+use Rattle.meaning.specs.Standing.{report}
+use Rattle.meaning.specs.Histories.{History, start, after, reading, told, labelsAfter, clockOf, story, labels}
+use Rattle.meaning.specs.Answers.{actSaid, saysOf, says}
+use Rattle.demand3.specs.Worlds.{World, step, play, begin, pastOf, tableOf, Right, Never}
+use Rattle.demand3.specs.Lives.{Made, lives, askedIn}
+use Rattle.demand3.specs.Demand.{Demand3}
+use Rattle.demand3.proofs.Fits.{Fits}
+use Rattle.demand3.proofs.Sim.{Fit, Sim, sim-order, sim-asked, sim-done, sim-same, same-count, fit-record}
+use Rattle.demand3.proofs.Numbers.{says-most}
+use Rattle.demand3.proofs.Lives.{same-made, All, all-at, Told, told-start, told-next}
+
+-- the table in step with its history
+abbrev pub InStep : History → Table → Type 0
+InStep h t = Sim (clockOf h) (λ l. story l h) (labels h) t
+
+-- what the table answers is what the paper says
+pub answered : (h : History) (t : Table) → InStep h t → (c : Call) → answer t c ≡ says h c
+unfolding answer says
+answered h t S c = ap (λ (b : Bool). cond b (asked t c) (numberOnly c 26)) (sim-order S) ∙ sim-asked S c
+
+was-asked : (h : History) (t : Table) → InStep h t → (c : Call) → answer t c ≡ asked t c
+unfolding answer
+was-asked h t S c = ap (λ (b : Bool). cond b (asked t c) (numberOnly c 26)) (sim-order S)
+
+-- one call more
+in-step-next : (h : History) (t : Table) → InStep h t → (c : Call) → InStep (after h c (answer t c)) (next t c)
+unfolding next clockOf story labels
+in-step-next h t S c =
+    split (isAccepted (answer t c))
+    (λ e. rw e (sim-same (λ m. refl) (sim-done S c (ap isAccepted (sym (was-asked h t S c)) ∙ e))))
+    (λ e. rw e (sim-same (λ m. refl) S))
+
+-- an empty set has no open record
+opens-none : (row : List Session) → opens 0 row ≡ []
+unfolding opens
+opens-none [] = refl
+opens-none (r ∷ rs) = opens-none rs
+
+in-step-start : (row : List Session) → length row ≡ 64 → InStep start (emptied row)
+unfolding emptied clockOf story labels once any find
+in-step-start row e =
+    let none′ = opens-none row in
+    record {
+      clock = refl;
+      rows = e;
+      labels = ap (once sameLabel) none′;
+      discriminators = ap (once sameDiscriminator) none′;
+      fit = λ l. subst (λ (o : Option Session). Fit 0 o none) (sym (ap (find l) none′)) tt;
+      count = ap length none′;
+      listed = λ l. refl;
+      once-each = refl;
+    }
+
+record Good (w : World) : Type 0 where
+  in-step : InStep (w .past) (w .table)
+  right : Right (w .past)
+  never : Never 26 (w .past)
+  lived : Told (w .past)
+
+good-step : (w : World) (c : Call) → Good w → Good (step w c)
+unfolding step Right Never says
+good-step w c G =
+    let h = w .past in
+    let a = answered h (w .table) (G .in-step) c in
+    record {
+      in-step = in-step-next h (w .table) (G .in-step) c;
+      right = (G .right, a);
+      never = (G .never, λ e. omega (arith, says-most (clockOf h) (λ l. story l h) (labels h) c, ap (λ (x : Said). x .number) a));
+      lived = told-next h c (answer (w .table) c) a (G .in-step .listed) (G .lived);
+    }
+
+good-play : (w : World) (cs : List Call) → Good w → Good (play w cs)
+unfolding play
+good-play w [] G = G
+good-play w (c ∷ cs) G = good-play (step w c) cs (good-step w c G)
+
+good-begin : (row : List Session) → length row ≡ 64 → Good (begin row)
+unfolding begin Right Never
+good-begin row e = record { in-step = in-step-start row e; right = tt; never = tt; lived = told-start }
+
+-- a report on an open label
+report-of : (h : History) (l : ℕ) (s : Story) → story l h ≡ some s → says h (On l ReportOn) ≡ reporting (report (clockOf h) s)
+unfolding says saysOf actSaid
+report-of h l s e = rw e
+
+-- two open records with one discriminator are one record
+one-each : (same : Session → Session → Bool) → ((a b : Session) → same a b ≡ same b a) → (rs : List Session) (a b : Session) → once same rs ≡ true
+    → List·Memᴰ a rs → List·Memᴰ b rs → same a b ≡ true → a ≡ b
+unfolding once
+one-each same back rs a b o (List·Memᴰ·head {x = x} {xs} e) (List·Memᴰ·head f) s = e ∙ sym f
+one-each same back rs a b o (List·Memᴰ·head {x = x} {xs} e) (List·Memᴰ·tail n) s =
+    no-way (any-at (same x) n (ap (λ (y : Session). same y b) (sym e) ∙ s)) (not-true _ (and-both (not (any (same x) xs)) (once same xs) o .0))
+one-each same back rs a b o (List·Memᴰ·tail {x = x} {xs} m) (List·Memᴰ·head f) s =
+    no-way (any-at (same x) m (back x a ∙ ap (same a) (sym f) ∙ s)) (not-true _ (and-both (not (any (same x) xs)) (once same xs) o .0))
+one-each same back rs a b o (List·Memᴰ·tail {x = x} {xs} m) (List·Memᴰ·tail n) s =
+    one-each same back xs a b (and-both (not (any (same x) xs)) (once same xs) o .1) m n s
+
+-- so two open labels with one discriminator are one label
+no-shared : (h : History) (t : Table) → InStep h t → (l m : ℕ) (s u : Story) → story l h ≡ some s → story m h ≡ some u
+    → settingsOf s .discriminator ≡ settingsOf u .discriminator → l ≡ m
+no-shared h t S l m s u p q e =
+    let a = fit-record (find l (openOf t)) (subst (λ (o : Option Story). Fit (clockOf h) (find l (openOf t)) o) p (S .fit l)) in
+    let b = fit-record (find m (openOf t)) (subst (λ (o : Option Story). Fit (clockOf h) (find m (openOf t)) o) q (S .fit m)) in
+    let x = found-is l (openOf t) (a .0) (a .1) in
+    let y = found-is m (openOf t) (b .0) (b .1) in
+    let same : a .0 .settings .discriminator ≡ b .0 .settings .discriminator =
+    ap (λ (g : Settings). g .discriminator) (a .2 .settings) ∙ e ∙ sym (ap (λ (g : Settings). g .discriminator) (b .2 .settings)) in
+    let one : a .0 ≡ b .0 =
+    one-each sameDiscriminator (λ v w. numbers-alike .back (v .settings .discriminator) (w .settings .discriminator)) (openOf t) (a .0) (b .0) (S .discriminators) (x .0) (y .0)
+    (eq-eqb (a .0 .settings .discriminator) (b .0 .settings .discriminator) same) in
+    sym (x .1) ∙ ap (λ (r : Session). r .settings .label) one ∙ y .1
+
+pub demand3 : (row : List Session) → length row ≡ 64 → (cs : List Call) → Demand3 row cs
+unfolding pastOf tableOf
+demand3 row e cs =
+    record {
+      answers = G .right;
+      never-26 = G .never;
+      reports = λ l s o. answered (w .past) (w .table) (G .in-step) (On l ReportOn) ∙ report-of (w .past) l s o;
+      untouched = λ other f ds l x y p q k. same-made l x y (all-at l (G .lived .all l) p) (all-at l (good-play (begin other) ds (good-begin other f) .lived .all l) q) k;
+      once-each = G .in-step .once-each;
+      unshared = no-shared (w .past) (w .table) (G .in-step);
+      row-labels = G .in-step .labels;
+      row-discriminators = G .in-step .discriminators;
+      row-count = same-count (G .in-step);
+    }
+  where
+    w : World
+    w = play (begin row) cs
+
+    G : Good w
+    G = good-play (begin row) cs (good-begin row e)
