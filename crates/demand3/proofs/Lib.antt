@@ -5,3 +5,4 @@ pub mod Sim
 pub mod Numbers
 pub mod Lives
 pub mod Demand
+pub mod Timer

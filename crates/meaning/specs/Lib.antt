@@ -3,3 +3,4 @@ pub mod Standing
 pub mod Histories
 pub mod Answers
 pub mod Accounts
+pub mod Timer

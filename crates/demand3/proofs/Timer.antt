@@ -1,0 +1,204 @@
+-- TIMER given eagerly, at every accepted call, is TIMER as a story has it.
+-- Assumes nothing.
+use Prim.Native.Nat.{ℕ, _+_, _≤_}
+use native.Mathlib.Omega.{arith}
+use mathlib.Core.Path.{_≡_, refl, sym, ap, _∙_}
+use mathlib.Core.Bool.{Bool, true, false, cond, not, _&&_}
+use mathlib.Core.Option.{Option, none, some}
+use lib.Dec.{eqb}
+use borrow.Author.Tests.{le-ltb, eqb-true}
+use Rattle.octets.specs.Choice.{need, bar}
+use Rattle.octets.proofs.Chain.{and-both, bar-passed}
+use Rattle.message.specs.declared.Message.{Message}
+use Rattle.message.specs.Message.{messageOf}
+use Rattle.rules.specs.declared.Settings.{Settings}
+use Rattle.rules.specs.declared.State.{State}
+use Rattle.rules.specs.declared.State.the-variants.{AdminDown, Down, NeighborDown, Init, Up}
+use Rattle.rules.specs.declared.Input.the-variants.{Timer, Crossed, LinkDown, LockReport}
+use Rattle.rules.specs.declared.Received.{Received}
+use Rattle.rules.specs.declared.Received.the-variants.{CrossedMessage, HeardCc, HeardCv, FaultMessage}
+use Rattle.rules.specs.Times.{past, detectionTime, late}
+use Rattle.rules.specs.States.{moved}
+use Rattle.rules.specs.Conditions.{actsOn, faultState, faultInput}
+use Rattle.rules.specs.Settings.{settingsFit}
+use Rattle.rules.specs.Calls.{Act, Close, Lock, Unlock, Receive, ReportOn, WriteCc, WriteCv, Call, Tick, Open, On, Said, isAccepted}
+use Rattle.rules.proofs.Bools.{split, both-true}
+use Rattle.rules.proofs.Ages.{past-later}
+use Rattle.rules.proofs.States.{timer-twice}
+use Rattle.meaning.specs.Stories.{Story, opened, lock, unlock, got, wroteCc, settingsOf, wasTo, isHeard}
+use Rattle.meaning.specs.Standing.{locked, timedFrom, multiplierOf, multiplierBy, loss, state, stateBy, stateAt}
+use Rattle.meaning.specs.Histories.{History, start, after, actReading, reading, actTold, told, clockOf, story, labels}
+use Rattle.meaning.specs.Answers.{isOpen, rival, full, openNumber, receiveNumber, actSaid, saysOf, says}
+use Rattle.meaning.specs.Timer.{timed, acted, afterCall, eagerState}
+use Rattle.demand3.specs.Worlds.{Right}
+use Rattle.demand3.proofs.Sim.{not-late}
+
+-- nothing is past at the reading that it is timed from
+past-none : (u span : ℕ) → past u span u ≡ false
+unfolding past
+past-none u span = le-ltb (u + span) u (omega arith)
+
+and-no : (a : Bool) {b : Bool} → b ≡ false → a && b ≡ false
+and-no true e = e
+and-no false e = refl
+
+loss-after : (s : Story) (now later : ℕ) → now ≤ later → loss now s ≡ true → loss later s ≡ true
+unfolding loss
+loss-after s now later h e =
+    let span = detectionTime (settingsOf s .period) (multiplierOf s) in
+    let a = and-both (not (locked s)) (past (timedFrom s) span now) e in
+    both-true (a .0) (past-later (timedFrom s) span now later h (a .1))
+
+-- the clock goes on
+state-later : (s : Story) (now later : ℕ) → now ≤ later → timed later s (stateAt now s) ≡ stateAt later s
+unfolding stateAt
+state-later s now later h =
+    split (loss now s) (λ a. rw (a, loss-after s now later h a) (timer-twice (state s))) (λ a. rw a)
+
+-- a session that TIMER took down stays down for a crossed message, LDI and LKR
+crossed-down : (x : State) → moved (moved (moved x Timer) Crossed) Timer ≡ moved (moved x Timer) Crossed
+crossed-down AdminDown = refl
+crossed-down Down = refl
+crossed-down NeighborDown = refl
+crossed-down Init = refl
+crossed-down Up = refl
+
+link-down : (x : State) → moved (moved (moved x Timer) LinkDown) Timer ≡ moved (moved x Timer) LinkDown
+link-down AdminDown = refl
+link-down Down = refl
+link-down NeighborDown = refl
+link-down Init = refl
+link-down Up = refl
+
+lock-report : (x : State) → moved (moved (moved x Timer) LockReport) Timer ≡ moved (moved x Timer) LockReport
+lock-report AdminDown = refl
+lock-report Down = refl
+lock-report NeighborDown = refl
+lock-report Init = refl
+lock-report Up = refl
+
+fault-down : (acts : Bool) (kind : ℕ) (x : State) → moved (faultState acts (moved x Timer) kind) Timer ≡ faultState acts (moved x Timer) kind
+fault-down true kind x = split (eqb kind 1) (λ e. rw e (link-down x)) (λ e. rw e (lock-report x))
+fault-down false kind x = timer-twice x
+
+-- the state at the reading of each event is what the event leaves
+opened-state : (g : Settings) (t : ℕ) → stateAt t (opened g t) ≡ Down
+unfolding stateAt loss timedFrom state
+opened-state g t = ap (λ (b : Bool). cond b (moved Down Timer) Down) (and-no (not (locked (opened g t))) (past-none t (detectionTime (settingsOf (opened g t) .period) (multiplierOf (opened g t)))))
+
+locked-state : (s : Story) (u : ℕ) → stateAt u (lock s u) ≡ AdminDown
+unfolding stateAt loss locked state
+locked-state s u = refl
+
+unlocked-state : (s : Story) (u : ℕ) → stateAt u (unlock s u) ≡ cond (locked s) Down (timed u s (state s))
+unfolding stateAt loss locked timedFrom multiplierOf settingsOf state
+unlocked-state s u =
+    split (locked s)
+    (λ e. rw (e, past-none u (detectionTime (settingsOf s .period) 3)))
+    (λ e. rw e
+    (split (past (timedFrom s) (detectionTime (settingsOf s .period) (multiplierOf s)) u) (λ a. rw a (timer-twice (state s))) (λ a. rw a)))
+
+-- a message that does not restart the detection time leaves the loss as it was
+got-loss : (s : Story) (m : Message) (u : ℕ) (x : Received) → wasTo s m ≡ x → isHeard x ≡ false → loss u (got s m u) ≡ loss u s
+unfolding loss locked timedFrom multiplierOf settingsOf
+got-loss s m u CrossedMessage e h = rw e
+got-loss s m u (HeardCc p) e h = absurd (let z : _≡_ {A = ℕ} 0 1 = cc in omega arith)
+got-loss s m u HeardCv e h = absurd (let z : _≡_ {A = ℕ} 0 1 = cc in omega arith)
+got-loss s m u (FaultMessage f) e h = rw e
+
+heard-loss : (s : Story) (m : Message) (u : ℕ) → isHeard (wasTo s m) ≡ true → loss u (got s m u) ≡ false
+unfolding loss timedFrom
+heard-loss s m u e = and-no (not (locked (got s m u))) (rw e (past-none u (detectionTime (settingsOf (got s m u) .period) (multiplierOf (got s m u)))))
+
+got-state : (s : Story) (m : Message) (u : ℕ) (x : Received) → wasTo s m ≡ x → stateAt u (got s m u) ≡ stateBy (settingsOf s) x (timed u s (state s))
+unfolding stateAt state
+got-state s m u CrossedMessage e =
+    ap (λ (b : Bool). cond b (moved (stateBy (settingsOf s) (wasTo s m) (timed u s (state s))) Timer) (stateBy (settingsOf s) (wasTo s m) (timed u s (state s)))) (got-loss s m u CrossedMessage e refl)
+    ∙ rw e (split (loss u s) (λ a. rw a (crossed-down (state s))) (λ a. rw a))
+got-state s m u (HeardCc p) e =
+    ap (λ (b : Bool). cond b (moved (stateBy (settingsOf s) (wasTo s m) (timed u s (state s))) Timer) (stateBy (settingsOf s) (wasTo s m) (timed u s (state s))))
+    (heard-loss s m u (ap isHeard e)) ∙ ap (λ (y : Received). stateBy (settingsOf s) y (timed u s (state s))) e
+got-state s m u HeardCv e =
+    ap (λ (b : Bool). cond b (moved (stateBy (settingsOf s) (wasTo s m) (timed u s (state s))) Timer) (stateBy (settingsOf s) (wasTo s m) (timed u s (state s))))
+    (heard-loss s m u (ap isHeard e)) ∙ ap (λ (y : Received). stateBy (settingsOf s) y (timed u s (state s))) e
+got-state s m u (FaultMessage f) e =
+    ap (λ (b : Bool). cond b (moved (stateBy (settingsOf s) (wasTo s m) (timed u s (state s))) Timer) (stateBy (settingsOf s) (wasTo s m) (timed u s (state s)))) (got-loss s m u (FaultMessage f) e refl)
+    ∙ rw e (split (loss u s) (λ a. rw a (fault-down (actsOn (settingsOf s) f) (f .kind) (state s))) (λ a. rw a))
+
+wrote-state : (s : Story) (u : ℕ) → stateAt u (wroteCc s) ≡ stateAt u s
+unfolding stateAt loss locked timedFrom multiplierOf settingsOf state
+wrote-state s u = refl
+
+-- the state that a story shows at a clock
+abbrev pub shown : ℕ → Option Story → Option State
+shown now none = none
+shown now (some s) = some (stateAt now s)
+
+stateAt-timed : (s : Story) (u : ℕ) → stateAt u s ≡ timed u s (state s)
+unfolding stateAt
+stateAt-timed s u = refl
+
+-- a call on the label itself
+act-agrees : (now : ℕ) (a : Act) (s : Story) → now ≤ actReading a now
+    → acted a s (timed (actReading a now) s (stateAt now s)) ≡ shown (actReading a now) (actTold a (some s))
+act-agrees now (Close t) s h = refl
+act-agrees now (Lock t) s h = ap some (sym (locked-state s t))
+act-agrees now (Unlock t) s h =
+    ap some (ap (cond (locked s) Down) (state-later s now t h ∙ stateAt-timed s t) ∙ sym (unlocked-state s t))
+act-agrees now (Receive m t) s h =
+    ap some
+    (ap (stateBy (settingsOf s) (wasTo s (messageOf m))) (state-later s now t h ∙ stateAt-timed s t) ∙ sym (got-state s (messageOf m) t (wasTo s (messageOf m)) refl))
+act-agrees now ReportOn s h = ap some (state-later s now now h)
+act-agrees now (WriteCc b) s h = ap some (state-later s now now h ∙ sym (wrote-state s now))
+act-agrees now (WriteCv b) s h = ap some (state-later s now now h)
+
+act-none : (a : Act) → actTold a none ≡ none
+act-none (Close t) = refl
+act-none (Lock t) = refl
+act-none (Unlock t) = refl
+act-none (Receive m t) = refl
+act-none ReportOn = refl
+act-none (WriteCc b) = refl
+act-none (WriteCv b) = refl
+
+-- any accepted call
+call-agrees : (l now : ℕ) (c : Call) (o : Option Story) → now ≤ reading c now → afterCall l (reading c now) c o (shown now o) ≡ shown (reading c now) (told l c o)
+call-agrees l now (Tick t) none h = refl
+call-agrees l now (Tick t) (some s) h = ap some (state-later s now t h)
+call-agrees l now (Open g t) none h =
+    split (eqb (g .label) l) (λ e. rw e (ap some (sym (opened-state g t)))) (λ e. rw e)
+call-agrees l now (Open g t) (some s) h =
+    split (eqb (g .label) l) (λ e. rw e (ap some (sym (opened-state g t)))) (λ e. rw e (ap some (state-later s now t h)))
+call-agrees l now (On m a) none h = split (eqb m l) (λ e. rw e (ap (shown (actReading a now)) (sym (act-none a)))) (λ e. rw e)
+call-agrees l now (On m a) (some s) h =
+    split (eqb m l) (λ e. rw e (act-agrees now a s h)) (λ e. rw e (ap some (state-later s now (actReading a now) h)))
+
+-- an accepted call brings no reading below the clock
+act-in-time : (now : ℕ) (o : Option Story) (l : ℕ) (a : Act) → isAccepted (actSaid now o l a) ≡ true → now ≤ actReading a now
+unfolding actSaid
+act-in-time now o l (Close t) e = not-late now t (bar-passed (late now t) 0 (need (isOpen o) 2 0) (eqb-true _ 0 e) .0)
+act-in-time now o l (Lock t) e = not-late now t (bar-passed (late now t) 0 (need (isOpen o) 2 0) (eqb-true _ 0 e) .0)
+act-in-time now o l (Unlock t) e = not-late now t (bar-passed (late now t) 0 (need (isOpen o) 2 0) (eqb-true _ 0 e) .0)
+act-in-time now o l (Receive m t) e = not-late now t (bar-passed (late now t) 0 (receiveNumber o m t) (eqb-true _ 0 e) .0)
+act-in-time now o l ReportOn e = omega arith
+act-in-time now o l (WriteCc b) e = omega arith
+act-in-time now o l (WriteCv b) e = omega arith
+
+pub in-time : (h : History) (c : Call) → isAccepted (says h c) ≡ true → clockOf h ≤ reading c (clockOf h)
+unfolding says saysOf openNumber
+in-time h (Tick t) e = not-late (clockOf h) t (bar-passed (late (clockOf h) t) 0 0 (eqb-true _ 0 e) .0)
+in-time h (Open g t) e =
+    not-late (clockOf h) t
+    (bar-passed (late (clockOf h) t) 0 (need (settingsFit g) 10 (bar (rival (λ l. story l h) (labels h) g) 11 (bar (full (labels h)) 12 0))) (eqb-true _ 0 e) .0)
+in-time h (On l a) e = act-in-time (clockOf h) (story l h) l a e
+
+-- the eager recursion is the story's state at the clock, for every history whose answers are the paper's
+pub timer-agrees : (h : History) → Right h → (l : ℕ) → eagerState l h ≡ shown (clockOf h) (story l h)
+unfolding Right eagerState clockOf story
+timer-agrees start r l = refl
+timer-agrees (after h c a) r l =
+    split (isAccepted a)
+    (λ e. rw e
+    (ap (afterCall l (reading c (clockOf h)) c (story l h)) (timer-agrees h (r .0) l)
+    ∙ call-agrees l (clockOf h) c (story l h) (in-time h c (ap isAccepted (sym (r .1)) ∙ e))))
+    (λ e. rw e (timer-agrees h (r .0) l))
