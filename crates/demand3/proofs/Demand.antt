@@ -28,6 +28,7 @@ use Rattle.demand3.specs.Lives.{Made, lives, askedIn}
 use Rattle.demand3.specs.Demand.{Demand3}
 use Rattle.demand3.proofs.Fits.{Fits}
 use Rattle.demand3.proofs.Sim.{Fit, Sim, sim-order, sim-asked, sim-done, sim-same, same-count, fit-record}
+use Rattle.demand3.proofs.Timer.{timer-agrees}
 use Rattle.demand3.proofs.Numbers.{says-most}
 use Rattle.demand3.proofs.Lives.{same-made, All, all-at, Told, told-start, told-next}
 
@@ -139,6 +140,7 @@ demand3 row e cs =
       answers = G .right;
       never-26 = G .never;
       reports = λ l s o. answered (w .past) (w .table) (G .in-step) (On l ReportOn) ∙ report-of (w .past) l s o;
+      timer = timer-agrees (w .past) (G .right);
       untouched = λ other f ds l x y p q k. same-made l x y (all-at l (G .lived .all l) p) (all-at l (good-play (begin other) ds (good-begin other f) .lived .all l) q) k;
       once-each = G .in-step .once-each;
       unshared = no-shared (w .past) (w .table) (G .in-step);

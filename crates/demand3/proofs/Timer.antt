@@ -29,7 +29,7 @@ use Rattle.meaning.specs.Stories.{Story, opened, lock, unlock, got, wroteCc, se
 use Rattle.meaning.specs.Standing.{locked, timedFrom, multiplierOf, multiplierBy, loss, state, stateBy, stateAt}
 use Rattle.meaning.specs.Histories.{History, start, after, actReading, reading, actTold, told, clockOf, story, labels}
 use Rattle.meaning.specs.Answers.{isOpen, rival, full, openNumber, receiveNumber, actSaid, saysOf, says}
-use Rattle.meaning.specs.Timer.{timed, acted, afterCall, eagerState}
+use Rattle.meaning.specs.Timer.{timed, acted, afterCall, eagerState, shown}
 use Rattle.demand3.specs.Worlds.{Right}
 use Rattle.demand3.proofs.Sim.{not-late}
 
@@ -128,11 +128,6 @@ got-state s m u (FaultMessage f) e =
 wrote-state : (s : Story) (u : ℕ) → stateAt u (wroteCc s) ≡ stateAt u s
 unfolding stateAt loss locked timedFrom multiplierOf settingsOf state
 wrote-state s u = refl
-
--- the state that a story shows at a clock
-abbrev pub shown : ℕ → Option Story → Option State
-shown now none = none
-shown now (some s) = some (stateAt now s)
 
 stateAt-timed : (s : Story) (u : ℕ) → stateAt u s ≡ timed u s (state s)
 unfolding stateAt

@@ -15,6 +15,7 @@ use Rattle.table.specs.Table.{Table, openOf, sameLabel, sameDiscriminator, answ
 use Rattle.meaning.specs.Stories.{Story, settingsOf}
 use Rattle.meaning.specs.Standing.{report}
 use Rattle.meaning.specs.Histories.{clockOf, story, labels}
+use Rattle.meaning.specs.Timer.{eagerState, shown}
 use Rattle.demand3.specs.Worlds.{pastOf, tableOf, Right, Never}
 use Rattle.demand3.specs.Lives.{Made, lives, askedIn}
 
@@ -25,6 +26,8 @@ pub record Demand3 (row : List Session) (cs : List Call) : Type 0 where
   -- after the list, the report on every open label is what its story means at the clock
   pub reports : (l : ℕ) (s : Story) → story l (pastOf row cs) ≡ some s
       → answer (tableOf row cs) (On l ReportOn) ≡ reporting (report (clockOf (pastOf row cs)) s)
+  -- the states are those that TIMER leaves when it is given to every session at every accepted reading
+  pub timer : (l : ℕ) → eagerState l (pastOf row cs) ≡ shown (clockOf (pastOf row cs)) (story l (pastOf row cs))
   -- whatever the calls on other labels: two lives in which the same is asked, with the same clock before each call, are told the same
   pub untouched : (other : List Session) → length other ≡ 64 → (ds : List Call) (l : ℕ) (x y : List Made)
       → List·Memᴰ x (lives l (pastOf row cs)) → List·Memᴰ y (lives l (pastOf other ds)) → askedIn x ≡ askedIn y → x ≡ y

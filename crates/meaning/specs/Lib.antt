@@ -4,3 +4,4 @@ pub mod Histories
 pub mod Answers
 pub mod Accounts
 pub mod Timer
+pub mod Edges

@@ -13,7 +13,7 @@ use Rattle.rules.specs.declared.Input.the-variants.{Timer}
 use Rattle.rules.specs.States.{moved}
 use Rattle.rules.specs.Calls.{Act, Close, Lock, Unlock, Receive, ReportOn, WriteCc, WriteCv, Call, Tick, Open, On, isAccepted}
 use Rattle.meaning.specs.Stories.{Story, settingsOf, wasTo}
-use Rattle.meaning.specs.Standing.{locked, loss, stateBy}
+use Rattle.meaning.specs.Standing.{locked, loss, stateBy, stateAt}
 use Rattle.meaning.specs.Histories.{History, start, after, reading, clockOf, story}
 
 -- TIMER at a reading, to a session whose story is known
@@ -46,3 +46,8 @@ afterCall l u (On m a) none o = none
 unfoldable pub eagerState : ℕ → History → Option State
 eagerState l start = none
 eagerState l (after h c a) = cond (isAccepted a) (afterCall l (reading c (clockOf h)) c (story l h) (eagerState l h)) (eagerState l h)
+
+-- the state that a story shows at a clock
+abbrev pub shown : ℕ → Option Story → Option State
+shown now none = none
+shown now (some s) = some (stateAt now s)
