@@ -22,12 +22,13 @@ use Rattle.table.proofs.Rows.{found-is, count-opens}
 use Rattle.meaning.specs.Stories.{Story, settingsOf}
 use Rattle.meaning.specs.Standing.{report}
 use Rattle.meaning.specs.Histories.{History, start, after, reading, told, labelsAfter, clockOf, story, labels}
-use Rattle.meaning.specs.Answers.{actSaid, saysOf, says}
+use Rattle.meaning.specs.Answers.{isOpen, actSaid, saysOf, says}
 use Rattle.demand3.specs.Worlds.{World, step, play, begin, pastOf, tableOf, Right, Never}
 use Rattle.demand3.specs.Lives.{Made, lives, askedIn}
 use Rattle.demand3.specs.Demand.{Demand3}
 use Rattle.demand3.proofs.Fits.{Fits}
 use Rattle.demand3.proofs.Sim.{Fit, Sim, sim-order, sim-asked, sim-done, sim-same, same-count, fit-record}
+use Rattle.demand3.proofs.Accounted.{shown-crossing, shown-loss, shown-held-back, shown-conditions, condition-fresh}
 use Rattle.demand3.proofs.Timer.{timer-agrees}
 use Rattle.demand3.proofs.Numbers.{says-most}
 use Rattle.demand3.proofs.Lives.{same-made, All, all-at, Told, told-start, told-next}
@@ -106,6 +107,11 @@ report-of : (h : History) (l : ℕ) (s : Story) → story l h ≡ some s → say
 unfolding says saysOf actSaid
 report-of h l s e = rw e
 
+-- an open label has a story
+open-story : (o : Option Story) → isOpen o ≡ true → (s : Story) × (o ≡ some s)
+open-story none e = no-way e refl
+open-story (some s) e = (s, refl)
+
 -- two open records with one discriminator are one record
 one-each : (same : Session → Session → Bool) → ((a b : Session) → same a b ≡ same b a) → (rs : List Session) (a b : Session) → once same rs ≡ true
     → List·Memᴰ a rs → List·Memᴰ b rs → same a b ≡ true → a ≡ b
@@ -139,7 +145,23 @@ demand3 row e cs =
     record {
       answers = G .right;
       never-26 = G .never;
-      reports = λ l s o. answered (w .past) (w .table) (G .in-step) (On l ReportOn) ∙ report-of (w .past) l s o;
+      reports = told-report;
+      crossing = λ l o. let s = open-story (story l (w .past)) o in
+          let e = ap (λ (x : Said). x .report .crossing) (told-report l (s .0) (s .1)) in
+          let a = shown-crossing (w .past) l (s .0) (s .1) (clockOf (w .past)) in
+          (λ k. a .0 (sym e ∙ k), λ k. e ∙ a .1 k);
+      loss = λ l o. let s = open-story (story l (w .past)) o in
+          let e = ap (λ (x : Said). x .report .loss) (told-report l (s .0) (s .1)) in
+          let a = shown-loss (w .past) l (s .0) (s .1) (clockOf (w .past)) in
+          (λ k. a .0 (sym e ∙ k), λ k. e ∙ a .1 k);
+      held-back = λ l o. let s = open-story (story l (w .past)) o in
+          let e = ap (λ (x : Said). x .report .loss) (told-report l (s .0) (s .1)) in
+          let f = ap (λ (x : Said). x .report .alarm) (told-report l (s .0) (s .1)) in
+          let a = shown-held-back (w .past) l (s .0) (s .1) (clockOf (w .past)) in
+          (λ k. a .0 (sym e ∙ k .0, sym f ∙ k .1), λ k. let b = a .1 k in (e ∙ b .0, f ∙ b .1));
+      conditions = λ l o keys q k. let s = open-story (story l (w .past)) o in
+          ap (λ (x : Said). x .report .conditions) (told-report l (s .0) (s .1)) ∙ shown-conditions (w .past) l (s .0) (s .1) (clockOf (w .past)) keys q k;
+      fresh = λ l p held. condition-fresh (w .past) (G .right) l (clockOf (w .past)) p (held .condition .0) (held .condition .1);
       timer = timer-agrees (w .past) (G .right);
       untouched = λ other f ds l x y p q k. same-made l x y (all-at l (G .lived .all l) p) (all-at l (good-play (begin other) ds (good-begin other f) .lived .all l) q) k;
       once-each = G .in-step .once-each;
@@ -154,3 +176,6 @@ demand3 row e cs =
 
     G : Good w
     G = good-play (begin row) cs (good-begin row e)
+
+    told-report : (l : ℕ) (s : Story) → story l (w .past) ≡ some s → answer (w .table) (On l ReportOn) ≡ reporting (report (clockOf (w .past)) s)
+    told-report l s o = answered (w .past) (w .table) (G .in-step) (On l ReportOn) ∙ report-of (w .past) l s o

@@ -260,7 +260,7 @@ good-heard (ConnectivityVerification q id) g p e k =
     (λ z. absurd (let w : HeardCv ≡ HeardCc p = rw z at e in let y : _≡_ {A = ℕ} 0 1 = cc in omega arith))
 good-heard (FaultManagement x) g p e k = absurd (let y : _≡_ {A = ℕ} 0 1 = cc in omega arith)
 
-good-told : (m : Message) (g : Settings) (f : Fault) → receivedAs g m ≡ FaultMessage f → Good m → (f .kind ≡ 0 → ⊥) × (f .kind ≤ 2) × (1 ≤ f .refresh) × (f .refresh ≤ 20)
+pub good-told : (m : Message) (g : Settings) (f : Fault) → receivedAs g m ≡ FaultMessage f → Good m → (f .kind ≡ 0 → ⊥) × (f .kind ≤ 2) × (1 ≤ f .refresh) × (f .refresh ≤ 20)
 unfolding receivedAs
 good-told (ContinuityCheck q) g f e k =
     split (foreign (g .discriminator) (q .your))

@@ -4,5 +4,6 @@ pub mod Fits
 pub mod Sim
 pub mod Numbers
 pub mod Lives
+pub mod Accounted
 pub mod Demand
 pub mod Timer

@@ -1,13 +1,17 @@
 -- Demand 3: one statement about every list of calls, refused ones included, from any row of 64 made empty.
 -- Assumes nothing.
-use Prim.Native.Nat.{ℕ}
+use Prim.Native.Nat.{ℕ, _+_, _<_}
 use mathlib.Core.Path.{_≡_}
 use mathlib.Core.Bool.{true}
+use mathlib.Core.Logic.{_↔_}
 use mathlib.Core.Option.{some}
 use mathlib.Core.List.{List, List·Memᴰ}
 use lib.ListN.{length}
 use lib.Dec.{eqb}
-use Rattle.rules.specs.Lists.{once}
+use Rattle.rules.specs.declared.Key.{Key}
+use Rattle.rules.specs.declared.Report.{Report}
+use Rattle.rules.specs.Conditions.{sameKey}
+use Rattle.rules.specs.Lists.{any, once}
 use Rattle.rules.specs.Calls.{Call, On, ReportOn, reporting}
 use Rattle.session.specs.declared.Session.{Session}
 use Rattle.table.specs.Places.{occupiedOf}
@@ -15,9 +19,15 @@ use Rattle.table.specs.Table.{Table, openOf, sameLabel, sameDiscriminator, answ
 use Rattle.meaning.specs.Stories.{Story, settingsOf}
 use Rattle.meaning.specs.Standing.{report}
 use Rattle.meaning.specs.Histories.{clockOf, story, labels}
+use Rattle.meaning.specs.Answers.{isOpen}
+use Rattle.meaning.specs.Accounts.{AccountsForCrossing, AccountsForLoss, AccountsForCondition, AccountsForHeldBack}
 use Rattle.meaning.specs.Timer.{eagerState, shown}
 use Rattle.demand3.specs.Worlds.{pastOf, tableOf, Right, Never}
 use Rattle.demand3.specs.Lives.{Made, lives, askedIn}
+
+-- the report that the table gives on a label
+abbrev pub reportOn : Table → ℕ → Report
+reportOn t l = answer t (On l ReportOn) .report
 
 pub record Demand3 (row : List Session) (cs : List Call) : Type 0 where
   -- each answer, report and buffer is the one that the rules paper gives; none is 26
@@ -26,6 +36,22 @@ pub record Demand3 (row : List Session) (cs : List Call) : Type 0 where
   -- after the list, the report on every open label is what its story means at the clock
   pub reports : (l : ℕ) (s : Story) → story l (pastOf row cs) ≡ some s
       → answer (tableOf row cs) (On l ReportOn) ≡ reporting (report (clockOf (pastOf row cs)) s)
+  -- of the table's own report on an open label after the list: it shows a crossing, a loss, a held-back alarm (loss 1 and alarm 0)
+  -- exactly when an accepted call accounts for it
+  pub crossing : (l : ℕ) → isOpen (story l (pastOf row cs)) ≡ true
+      → (reportOn (tableOf row cs) l .crossing ≡ 1) ↔ ((p : ℕ) × AccountsForCrossing (pastOf row cs) l (clockOf (pastOf row cs)) p)
+  pub loss : (l : ℕ) → isOpen (story l (pastOf row cs)) ≡ true
+      → (reportOn (tableOf row cs) l .loss ≡ 1) ↔ ((p : ℕ) × AccountsForLoss (pastOf row cs) l (clockOf (pastOf row cs)) p)
+  pub held-back : (l : ℕ) → isOpen (story l (pastOf row cs)) ≡ true
+      → ((reportOn (tableOf row cs) l .loss ≡ 1) × (reportOn (tableOf row cs) l .alarm ≡ 0))
+      ↔ ((p : ℕ) × AccountsForHeldBack (pastOf row cs) l (clockOf (pastOf row cs)) p)
+  -- the number of conditions shown is that of the keys so accounted for
+  pub conditions : (l : ℕ) → isOpen (story l (pastOf row cs)) ≡ true → (keys : List Key) → once sameKey keys ≡ true
+      → ((key : Key) → (any (sameKey key) keys ≡ true) ↔ ((p : ℕ) × AccountsForCondition (pastOf row cs) l key (clockOf (pastOf row cs)) p))
+      → reportOn (tableOf row cs) l .conditions ≡ length keys
+  -- every message that accounts for a held-back alarm is less than 70 seconds old
+  pub fresh : (l p : ℕ) (held : AccountsForHeldBack (pastOf row cs) l (clockOf (pastOf row cs)) p)
+      → clockOf (pastOf row cs) < held .condition .1 .reading + 70000000
   -- the states are those that TIMER leaves when it is given to every session at every accepted reading
   pub timer : (l : ℕ) → eagerState l (pastOf row cs) ≡ shown (clockOf (pastOf row cs)) (story l (pastOf row cs))
   -- whatever the calls on other labels: two lives in which the same is asked, with the same clock before each call, are told the same

@@ -1,0 +1,133 @@
+-- What a report shows is what accepted calls account for.
+-- Assumes nothing.
+use Prim.Native.Nat.{ℕ, suc, _+_, _*_, _≤_, _<_}
+use native.Mathlib.Omega.{arith}
+use mathlib.Core.Path.{_≡_, refl, sym, ap, _∙_}
+use mathlib.Core.Bool.{Bool, true, false, cond, not, _&&_, _||_}
+use mathlib.Core.Option.{Option, none, some}
+use mathlib.Core.Logic.{_↔_, inl, inr}
+use mathlib.Core.List.{List, [], _∷_}
+use lib.ListN.{length}
+use lib.Dec.{eqb}
+use borrow.Author.Tests.{eqb-true, eqb-false, eq-eqb, ne-eqb}
+use Rattle.octets.specs.Choice.{bitOf, need, bar, orElse}
+use Rattle.octets.proofs.Chain.{and-both, bar-passed, orElse-passed}
+use Rattle.fault.specs.declared.Fault.{Fault}
+use Rattle.message.specs.Message.{messageRefusal, messageOf}
+use Rattle.rules.specs.declared.Key.{Key}
+use Rattle.rules.specs.Times.{late}
+use Rattle.rules.specs.Conditions.{sameKey}
+use Rattle.rules.specs.Diagnostics.{lossAlarm, reportOf}
+use Rattle.rules.specs.Lists.{any, only, once}
+use Rattle.rules.specs.Calls.{Receive, Call, On, Said, isAccepted}
+use Rattle.rules.proofs.Bools.{split, no-way, both-true, refuted, true-false, same-test}
+use Rattle.rules.proofs.Lists.{any-who, any-at, none-only, same-length, any-only, once-only}
+use Rattle.rules.proofs.SameKeys.{keys-alike, same-refl}
+use Rattle.meaning.specs.Stories.{Story}
+use Rattle.meaning.specs.Standing.{crossing, loss, stands, keysOf, conditions, report}
+use Rattle.meaning.specs.Histories.{History, start, after, clockOf, story, labels}
+use Rattle.meaning.specs.Answers.{receivedNumber, receiveNumber, actSaid, saysOf, says}
+use Rattle.meaning.specs.Accounts.{Took, Heard, AccountsForCrossing, AccountsForLoss, AccountsForCondition, AccountsForHeldBack}
+use Rattle.meaning.proofs.Crossings.{crossing-accounted}
+use Rattle.meaning.proofs.Conditions.{condition-accounted}
+use Rattle.meaning.proofs.Losses.{loss-accounted}
+use Rattle.demand3.specs.Worlds.{Right}
+use Rattle.demand3.proofs.Places.{keys-once, stands-has, stands-alike}
+use Rattle.demand3.proofs.Read.{read-good}
+use Rattle.demand3.proofs.Fits.{good-told}
+
+bit-true : (b : Bool) → bitOf b ≡ 1 → b ≡ true
+bit-true true e = refl
+bit-true false e = absurd (omega arith)
+
+true-bit : (b : Bool) → b ≡ true → bitOf b ≡ 1
+true-bit b e = ap bitOf e
+
+module _ (h : History) (l : ℕ) (s : Story) (o : story l h ≡ some s) (now : ℕ) where
+  pub shown-crossing : (report now s .crossing ≡ 1) ↔ ((p : ℕ) × AccountsForCrossing h l now p)
+  unfolding report
+  shown-crossing =
+      let a = crossing-accounted h l s o now in
+      (λ e. a .0 (bit-true (crossing now s) e), λ w. true-bit (crossing now s) (a .1 (w .0) (w .1)))
+
+  pub shown-loss : (report now s .loss ≡ 1) ↔ ((p : ℕ) × AccountsForLoss h l now p)
+  unfolding report
+  shown-loss =
+      let a = loss-accounted h l s o now in
+      (λ e. a .0 (bit-true (loss now s) e), λ w. true-bit (loss now s) (a .1 (w .0) (w .1)))
+
+  -- some key stands exactly when the number of conditions is not 0
+  stands-some : (conditions now s ≡ 0 → ⊥) → (key : Key) × (stands now s key ≡ true)
+  unfolding conditions
+  stands-some z =
+      split (any (stands now s) (keysOf s))
+      (λ e. let w = any-who (stands now s) (keysOf s) e in (w .0, w .2))
+      (λ e. absurd (z (ap length (none-only (stands now s) (keysOf s) e))))
+
+  keys-standing : (key : Key) → any (sameKey key) (only (stands now s) (keysOf s)) ≡ stands now s key
+  keys-standing key =
+      any-only sameKey keys-alike (stands now s) (λ a b e. stands-alike a b e now s) key (keysOf s)
+      ∙ same-test (any (sameKey key) (keysOf s) && stands now s key) (stands now s key)
+      (λ e. and-both (any (sameKey key) (keysOf s)) (stands now s key) e .1) (λ e. both-true (stands-has now s key e) e)
+
+  some-stands : (key : Key) → stands now s key ≡ true → conditions now s ≡ 0 → ⊥
+  unfolding conditions
+  some-stands key e z = none-there (only (stands now s) (keysOf s)) z (keys-standing key ∙ e)
+    where
+      none-there : (ks : List Key) → length ks ≡ 0 → any (sameKey key) ks ≡ true → ⊥
+      none-there [] n w = true-false w (unfold any in refl)
+      none-there (k ∷ ks) n w = omega arith
+
+  pub shown-held-back : ((report now s .loss ≡ 1) × (report now s .alarm ≡ 0)) ↔ ((p : ℕ) × AccountsForHeldBack h l now p)
+  unfolding report
+  shown-held-back = (
+    λ e.
+        let lost : loss now s ≡ true = bit-true (loss now s) (e .0) in
+        let k = stands-some (λ z. no-alarm lost z (e .1)) in
+        let w = condition-accounted h l s o (k .0) now .0 (k .1) in
+        (w .0, record { loss = loss-accounted h l s o now .0 lost; condition = (k .0, w .1) }),
+    λ w.
+        let lost : loss now s ≡ true = loss-accounted h l s o now .1 (w .1 .loss .0) (w .1 .loss .1) in
+        let up : stands now s (w .1 .condition .0) ≡ true = condition-accounted h l s o (w .1 .condition .0) now .1 (w .0) (w .1 .condition .1) in
+        (true-bit (loss now s) lost, alarm-off lost (some-stands (w .1 .condition .0) up)),
+  )
+    where
+      no-alarm : loss now s ≡ true → conditions now s ≡ 0 → bitOf (lossAlarm (loss now s) (conditions now s)) ≡ 0 → ⊥
+      no-alarm a z b =
+          let c : bitOf (lossAlarm (loss now s) (conditions now s)) ≡ 1 = true-bit _ (both-true a (eq-eqb (conditions now s) 0 z)) in
+          omega arith
+
+      alarm-off : loss now s ≡ true → (conditions now s ≡ 0 → ⊥) → bitOf (lossAlarm (loss now s) (conditions now s)) ≡ 0
+      alarm-off a z = ap (λ (b : Bool). bitOf b) (ap (λ (b : Bool). loss now s && b) (ne-eqb (conditions now s) 0 z) ∙ ap (λ (b : Bool). b && false) a)
+
+  pub shown-conditions : (keys : List Key) → once sameKey keys ≡ true → ((key : Key) → (any (sameKey key) keys ≡ true) ↔ ((p : ℕ) × AccountsForCondition h l key now p))
+      → report now s .conditions ≡ length keys
+  unfolding report conditions
+  shown-conditions keys once′ each =
+      same-length sameKey keys-alike (only (stands now s) (keysOf s)) keys
+      (once-only sameKey keys-alike (stands now s) (λ a b e. stands-alike a b e now s) (keysOf s) (keys-once s)) once′
+      (λ key.
+      keys-standing key
+      ∙ same-test (stands now s key) (any (sameKey key) keys)
+      (λ e. each key .1 (condition-accounted h l s o key now .0 e))
+      (λ e. let w = each key .0 e in condition-accounted h l s o key now .1 (w .0) (w .1)))
+
+-- a message that was accepted was not refused by its reader
+read-there : (o : Option Story) (m : List ℕ) (t : ℕ) → receiveNumber o m t ≡ 0 → messageRefusal m ≡ 0
+read-there none m t e = absurd (omega arith)
+read-there (some s) m t e = orElse-passed (messageRefusal m) _ e .0
+
+accepted-read : (h : History) → Right h → (p l : ℕ) (m : List ℕ) (t : ℕ) → Took h p (On l (Receive m t)) → messageRefusal m ≡ 0
+unfolding Right Took says saysOf actSaid
+accepted-read start r p l m t w = absurd w
+accepted-read (after h d a) r p l m t (inl w) =
+    let y : isAccepted (says h (On l (Receive m t))) ≡ true = ap isAccepted (ap (says h) (w .1) ∙ sym (r .1)) ∙ w .2 in
+    read-there (story l h) m t (bar-passed (late (clockOf h) t) 0 (receiveNumber (story l h) m t) (eqb-true _ 0 y) .1)
+accepted-read (after h d a) r p l m t (inr w) = accepted-read h (r .0) p l m t w
+
+-- so what accounts for a condition is less than 70 seconds old
+pub condition-fresh : (h : History) → Right h → (l now p : ℕ) (key : Key) (a : AccountsForCondition h l key now p) → now < a .reading + 70000000
+condition-fresh h r l now p key a =
+    let m = a .message .message in
+    let g = good-told (messageOf (m .0)) (a .settings) (a .fault) (m .2) (read-good (m .0) (accepted-read h r p l (m .0) (a .reading) (m .1))) in
+    omega (arith, a .fresh, g .3)
