@@ -4,3 +4,12 @@ pub mod Crossings
 pub mod Conditions
 pub mod LossPositions
 pub mod Losses
+pub mod Places
+pub mod Read
+pub mod Fits
+pub mod Sim
+pub mod Numbers
+pub mod Lives
+pub mod Timer
+pub mod Accounted
+pub mod Demand

@@ -5,3 +5,6 @@ pub mod Answers
 pub mod Accounts
 pub mod Timer
 pub mod Edges
+pub mod Worlds
+pub mod Lives
+pub mod Demand

@@ -25,13 +25,13 @@ use Rattle.rules.specs.Calls.{Act, Close, Lock, Unlock, Receive, ReportOn, Writ
 use Rattle.rules.proofs.Bools.{split, both-true}
 use Rattle.rules.proofs.Ages.{past-later}
 use Rattle.rules.proofs.States.{timer-twice}
 use Rattle.meaning.specs.Stories.{Story, opened, lock, unlock, got, wroteCc, settingsOf, wasTo, isHeard}
 use Rattle.meaning.specs.Standing.{locked, timedFrom, multiplierOf, multiplierBy, loss, state, stateBy, stateAt}
 use Rattle.meaning.specs.Histories.{History, start, after, actReading, reading, actTold, told, clockOf, story, labels}
 use Rattle.meaning.specs.Answers.{isOpen, rival, full, openNumber, receiveNumber, actSaid, saysOf, says}
 use Rattle.meaning.specs.Timer.{timed, acted, afterCall, eagerState, shown}
-use Rattle.demand3.specs.Worlds.{Right}
-use Rattle.demand3.proofs.Sim.{not-late}
+use Rattle.meaning.specs.Worlds.{Right}
+use Rattle.meaning.proofs.Sim.{not-late}
 
 -- nothing is past at the reading that it is timed from
 past-none : (u span : ℕ) → past u span u ≡ false

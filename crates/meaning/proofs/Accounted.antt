@@ -23,18 +23,18 @@ use Rattle.rules.specs.Calls.{Receive, Call, On, Said, isAccepted}
 use Rattle.rules.proofs.Bools.{split, no-way, both-true, refuted, true-false, same-test}
 use Rattle.rules.proofs.Lists.{any-who, any-at, none-only, same-length, any-only, once-only}
 use Rattle.rules.proofs.SameKeys.{keys-alike, same-refl}
 use Rattle.meaning.specs.Stories.{Story}
 use Rattle.meaning.specs.Standing.{crossing, loss, stands, keysOf, conditions, report}
 use Rattle.meaning.specs.Histories.{History, start, after, clockOf, story, labels}
 use Rattle.meaning.specs.Answers.{receivedNumber, receiveNumber, actSaid, saysOf, says}
 use Rattle.meaning.specs.Accounts.{Took, Heard, AccountsForCrossing, AccountsForLoss, AccountsForCondition, AccountsForHeldBack}
 use Rattle.meaning.proofs.Crossings.{crossing-accounted}
 use Rattle.meaning.proofs.Conditions.{condition-accounted}
 use Rattle.meaning.proofs.Losses.{loss-accounted}
-use Rattle.demand3.specs.Worlds.{Right}
-use Rattle.demand3.proofs.Places.{keys-once, stands-has, stands-alike}
-use Rattle.demand3.proofs.Read.{read-good}
-use Rattle.demand3.proofs.Fits.{good-told}
+use Rattle.meaning.specs.Worlds.{Right}
+use Rattle.meaning.proofs.Places.{keys-once, stands-has, stands-alike}
+use Rattle.meaning.proofs.Read.{read-good}
+use Rattle.meaning.proofs.Fits.{good-told}
 
 bit-true : (b : Bool) → bitOf b ≡ 1 → b ≡ true
 bit-true true e = refl

@@ -16,14 +16,14 @@ use Rattle.rules.specs.Calls.{Call, On, ReportOn, reporting}
 use Rattle.session.specs.declared.Session.{Session}
 use Rattle.table.specs.Places.{occupiedOf}
 use Rattle.table.specs.Table.{Table, openOf, sameLabel, sameDiscriminator, answer}
 use Rattle.meaning.specs.Stories.{Story, settingsOf}
 use Rattle.meaning.specs.Standing.{report}
 use Rattle.meaning.specs.Histories.{clockOf, story, labels}
 use Rattle.meaning.specs.Answers.{isOpen}
 use Rattle.meaning.specs.Accounts.{AccountsForCrossing, AccountsForLoss, AccountsForCondition, AccountsForHeldBack}
 use Rattle.meaning.specs.Timer.{eagerState, shown}
-use Rattle.demand3.specs.Worlds.{pastOf, tableOf, Right, Never}
-use Rattle.demand3.specs.Lives.{Made, lives, askedIn}
+use Rattle.meaning.specs.Worlds.{pastOf, tableOf, Right, Never}
+use Rattle.meaning.specs.Lives.{Made, lives, askedIn}
 
 -- the report that the table gives on a label
 abbrev pub reportOn : Table → ℕ → Report

@@ -39,11 +39,11 @@ use Rattle.session.specs.Steps as Steps
 use Rattle.session.specs.Reception.{receivedAnswer, receivedBy}
 use Rattle.session.specs.Soundness.{sessionSound}
 use Rattle.session.proofs.Sound.{sound-says, opened-sound, locked-sound, unlocked-sound, heard-cc-sound, heard-cv-sound, crossed-sound, fault-sound, written-sound, kept-sound}
 use Rattle.meaning.specs.Stories.{Story, opened, lock, unlock, got, wroteCc, settingsOf, wasTo, isCrossed, isHeard}
 use Rattle.meaning.specs.Standing.{locked, crossing, timedFrom, multiplierOf, multiplierBy, loss, state, stateBy, stateAt, remoteDiagnostic, diagnosticBy, remoteOf, remoteBy, owed, owedBy, conditions, followed, report, diagnostic, packet, ccWritten, cvWritten}
 use Rattle.meaning.specs.Answers.{receivedNumber}
-use Rattle.demand3.proofs.Places.{Kept, kept-opened, kept-later, kept-lock, kept-unlock, kept-wrote, kept-crossed, kept-cc, kept-cv, kept-fault, kept-count, kept-followed, kept-crowded}
-use Rattle.demand3.proofs.Read.{Good}
+use Rattle.meaning.proofs.Places.{Kept, kept-opened, kept-later, kept-lock, kept-unlock, kept-wrote, kept-crossed, kept-cc, kept-cv, kept-fault, kept-count, kept-followed, kept-crowded}
+use Rattle.meaning.proofs.Read.{Good}
 
 -- no input locks or unlocks a session
 moved-locked : (s : State) (i : Input) → isLocked (moved s i) ≡ isLocked s

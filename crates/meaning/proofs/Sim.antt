@@ -32,12 +32,12 @@ use Rattle.session.specs.Soundness.{sessionSound}
 use Rattle.table.specs.Places.{lowestFree, occupiedOf, opens, hasLabel, placeOf}
 use Rattle.table.specs.Table.{Table, openOf, receiveAnswer, reportAnswer, writeAnswer, sameLabel, sameDiscriminator, every, inOrder, find, isFound, rivals, openAnswer, actAnswer, asked, answer, altered, added, closed, receiving, actDone, done, next, absent}
 use Rattle.table.proofs.Rows.{update, opens-altered, opens-added, opens-closed, count-opens, free-exists, find-update-same, find-update-other, once-update, length-update, found-is, none-found, none-there, find-inserted-own, find-inserted-other, found-own}
 use Rattle.meaning.specs.Stories.{Story, opened, lock, unlock, got, wroteCc, settingsOf}
 use Rattle.meaning.specs.Standing.{ccWritten, cvWritten}
 use Rattle.meaning.specs.Histories.{actReading, reading, more, actTold, told, actLabels, labelsAfter}
 use Rattle.meaning.specs.Answers.{receivedNumber, receiveNumber, reportSaid, writeSaid, isOpen, hasDiscriminator, rival, full, openNumber, actSaid, saysOf}
-use Rattle.demand3.proofs.Fits.{Fits, same-report, same-cc, same-cv, same-received, fits-later, fits-opened, fits-locked, fits-unlocked, fits-wrote, fits-got}
-use Rattle.demand3.proofs.Read.{read-good}
+use Rattle.meaning.proofs.Fits.{Fits, same-report, same-cc, same-cv, same-received, fits-later, fits-opened, fits-locked, fits-unlocked, fits-wrote, fits-got}
+use Rattle.meaning.proofs.Read.{read-good}
 
 -- a record for a story, or neither
 abbrev pub Fit : ℕ → Option Session → Option Story → Type 0

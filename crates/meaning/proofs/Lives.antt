@@ -18,10 +18,10 @@ use Rattle.rules.specs.Lists.{any}
 use Rattle.rules.specs.Calls.{Act, Close, Lock, Unlock, Receive, ReportOn, WriteCc, WriteCv, Call, Tick, Open, On, Said, isAccepted, numberOnly}
 use Rattle.rules.proofs.Bools.{split, no-way, or-left}
 use Rattle.rules.proofs.Lists.{any-at, any-who}
 use Rattle.meaning.specs.Stories.{Story, opened, lock, unlock, got, wroteCc}
 use Rattle.meaning.specs.Histories.{History, start, after, clockOf, more, actTold, told, story, labels}
 use Rattle.meaning.specs.Answers.{isOpen, hasDiscriminator, rival, full, openNumber, actSaid, saysOf, says}
-use Rattle.demand3.specs.Lives.{isOn, Made, goesOn, lives, Asked, askedIn}
+use Rattle.meaning.specs.Lives.{isOn, Made, goesOn, lives, Asked, askedIn}
 
 -- 1. What a call on an open label says, from its story and the clock alone.
 

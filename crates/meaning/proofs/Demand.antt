@@ -19,19 +19,19 @@ use Rattle.session.specs.declared.Session.{Session}
 use Rattle.table.specs.Places.{occupiedOf, opens}
 use Rattle.table.specs.Table.{Table, openOf, sameLabel, sameDiscriminator, inOrder, find, asked, answer, done, next, emptied}
 use Rattle.table.proofs.Rows.{found-is, count-opens}
 use Rattle.meaning.specs.Stories.{Story, settingsOf}
 use Rattle.meaning.specs.Standing.{report}
 use Rattle.meaning.specs.Histories.{History, start, after, reading, told, labelsAfter, clockOf, story, labels}
 use Rattle.meaning.specs.Answers.{isOpen, actSaid, saysOf, says}
-use Rattle.demand3.specs.Worlds.{World, step, play, begin, pastOf, tableOf, Right, Never}
-use Rattle.demand3.specs.Lives.{Made, lives, askedIn}
-use Rattle.demand3.specs.Demand.{Demand3}
-use Rattle.demand3.proofs.Fits.{Fits}
-use Rattle.demand3.proofs.Sim.{Fit, Sim, sim-order, sim-asked, sim-done, sim-same, same-count, fit-record}
-use Rattle.demand3.proofs.Accounted.{shown-crossing, shown-loss, shown-held-back, shown-conditions, condition-fresh}
-use Rattle.demand3.proofs.Timer.{timer-agrees}
-use Rattle.demand3.proofs.Numbers.{says-most}
-use Rattle.demand3.proofs.Lives.{same-made, All, all-at, Told, told-start, told-next}
+use Rattle.meaning.specs.Worlds.{World, step, play, begin, pastOf, tableOf, Right, Never}
+use Rattle.meaning.specs.Lives.{Made, lives, askedIn}
+use Rattle.meaning.specs.Demand.{Demand3}
+use Rattle.meaning.proofs.Fits.{Fits}
+use Rattle.meaning.proofs.Sim.{Fit, Sim, sim-order, sim-asked, sim-done, sim-same, same-count, fit-record}
+use Rattle.meaning.proofs.Accounted.{shown-crossing, shown-loss, shown-held-back, shown-conditions, condition-fresh}
+use Rattle.meaning.proofs.Timer.{timer-agrees}
+use Rattle.meaning.proofs.Numbers.{says-most}
+use Rattle.meaning.proofs.Lives.{same-made, All, all-at, Told, told-start, told-next}
 
 -- the table in step with its history
 abbrev pub InStep : History → Table → Type 0

@@ -1,9 +1,0 @@
-pub mod Places
-pub mod Read
-pub mod Fits
-pub mod Sim
-pub mod Numbers
-pub mod Lives
-pub mod Accounted
-pub mod Demand
-pub mod Timer

@@ -1,3 +1,0 @@
-pub mod Worlds
-pub mod Lives
-pub mod Demand
