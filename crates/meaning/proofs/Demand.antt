@@ -27,7 +27,7 @@ use Rattle.meaning.specs.Worlds.{World, step, play, begin, pastOf, table
 use Rattle.meaning.specs.Lives.{Made, lives, askedIn}
 use Rattle.meaning.specs.Demand.{Demand3}
 use Rattle.meaning.proofs.Fits.{Fits}
-use Rattle.meaning.proofs.Sim.{Fit, Sim, sim-order, sim-asked, sim-done, sim-same, same-count, fit-record}
+use Rattle.meaning.proofs.Sim.{Fit, Sim, sim-order, sim-asked, sim-done, sim-same, same-count, fit-open, fit-record}
 use Rattle.meaning.proofs.Accounted.{shown-crossing, shown-loss, shown-held-back, shown-conditions, condition-fresh}
 use Rattle.meaning.proofs.Timer.{timer-agrees}
 use Rattle.meaning.proofs.Numbers.{says-most}
@@ -166,6 +166,7 @@ demand3 row e cs =
       untouched = λ other f ds l x y p q k. same-made l x y (all-at l (G .lived .all l) p) (all-at l (good-play (begin other) ds (good-begin other f) .lived .all l) q) k;
       once-each = G .in-step .once-each;
       unshared = no-shared (w .past) (w .table) (G .in-step);
+      row-open = λ l. fit-open (clockOf (w .past)) (find l (openOf (w .table))) (story l (w .past)) (G .in-step .fit l);
       row-labels = G .in-step .labels;
       row-discriminators = G .in-step .discriminators;
       row-count = same-count (G .in-step);

@@ -73,7 +73,7 @@ discriminator-alike =
       through = λ a b c p q. numbers-alike .through (a .settings .discriminator) (b .settings .discriminator) (c .settings .discriminator) p q;
     }
 
-fit-open : (now : ℕ) (o : Option Session) (p : Option Story) → Fit now o p → isFound o ≡ isOpen p
+pub fit-open : (now : ℕ) (o : Option Session) (p : Option Story) → Fit now o p → isFound o ≡ isOpen p
 fit-open now none none f = refl
 fit-open now none (some s) f = absurd f
 fit-open now (some r) none f = absurd f

@@ -15,7 +15,7 @@ use Rattle.rules.specs.Lists.{any, once}
 use Rattle.rules.specs.Calls.{Call, On, ReportOn, reporting}
 use Rattle.session.specs.declared.Session.{Session}
 use Rattle.table.specs.Places.{occupiedOf}
-use Rattle.table.specs.Table.{Table, openOf, sameLabel, sameDiscriminator, answer}
+use Rattle.table.specs.Table.{Table, openOf, find, isFound, sameLabel, sameDiscriminator, answer}
 use Rattle.meaning.specs.Stories.{Story, settingsOf}
 use Rattle.meaning.specs.Standing.{report}
 use Rattle.meaning.specs.Histories.{clockOf, story, labels}
@@ -61,7 +61,8 @@ pub record Demand3 (row : List Session) (cs : List Call) : Type 0 where
   pub once-each : once eqb (labels (pastOf row cs)) ≡ true
   pub unshared : (l m : ℕ) (s u : Story) → story l (pastOf row cs) ≡ some s → story m (pastOf row cs) ≡ some u
       → settingsOf s .discriminator ≡ settingsOf u .discriminator → l ≡ m
-  -- nor do two occupied places of the row, and the set's ones are the open labels' number
+  -- nor do two occupied places of the row; the occupied places are exactly the open labels' records, and the set's ones are their number
+  pub row-open : (l : ℕ) → isFound (find l (openOf (tableOf row cs))) ≡ isOpen (story l (pastOf row cs))
   pub row-labels : once sameLabel (openOf (tableOf row cs)) ≡ true
   pub row-discriminators : once sameDiscriminator (openOf (tableOf row cs)) ≡ true
   pub row-count : occupiedOf 64 (tableOf row cs .occupied) ≡ length (labels (pastOf row cs))
