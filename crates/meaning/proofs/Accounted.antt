@@ -43,6 +43,29 @@ bit-true false e = absurd (omega arith)
 true-bit : (b : Bool) → b ≡ true → bitOf b ≡ 1
 true-bit b e = ap bitOf e
 
+module _ (now : ℕ) (s : Story) where
+  -- some key stands exactly when the number of conditions is not 0
+  pub stands-some : (conditions now s ≡ 0 → ⊥) → (key : Key) × (stands now s key ≡ true)
+  unfolding conditions
+  stands-some z =
+      split (any (stands now s) (keysOf s))
+      (λ e. let w = any-who (stands now s) (keysOf s) e in (w .0, w .2))
+      (λ e. absurd (z (ap length (none-only (stands now s) (keysOf s) e))))
+
+  keys-standing : (key : Key) → any (sameKey key) (only (stands now s) (keysOf s)) ≡ stands now s key
+  keys-standing key =
+      any-only sameKey keys-alike (stands now s) (λ a b e. stands-alike a b e now s) key (keysOf s)
+      ∙ same-test (any (sameKey key) (keysOf s) && stands now s key) (stands now s key)
+      (λ e. and-both (any (sameKey key) (keysOf s)) (stands now s key) e .1) (λ e. both-true (stands-has now s key e) e)
+
+  pub some-stands : (key : Key) → stands now s key ≡ true → conditions now s ≡ 0 → ⊥
+  unfolding conditions
+  some-stands key e z = none-there (only (stands now s) (keysOf s)) z (keys-standing key ∙ e)
+    where
+      none-there : (ks : List Key) → length ks ≡ 0 → any (sameKey key) ks ≡ true → ⊥
+      none-there [] n w = true-false w (unfold any in refl)
+      none-there (k ∷ ks) n w = omega arith
+
 module _ (h : History) (l : ℕ) (s : Story) (o : story l h ≡ some s) (now : ℕ) where
   pub shown-crossing : (report now s .crossing ≡ 1) ↔ ((p : ℕ) × AccountsForCrossing h l now p)
   unfolding report
@@ -56,40 +79,18 @@ module _ (h : History) (l : ℕ) (s : Story) (o : story l h ≡ some s) (now : �
       let a = loss-accounted h l s o now in
       (λ e. a .0 (bit-true (loss now s) e), λ w. true-bit (loss now s) (a .1 (w .0) (w .1)))
 
-  -- some key stands exactly when the number of conditions is not 0
-  stands-some : (conditions now s ≡ 0 → ⊥) → (key : Key) × (stands now s key ≡ true)
-  unfolding conditions
-  stands-some z =
-      split (any (stands now s) (keysOf s))
-      (λ e. let w = any-who (stands now s) (keysOf s) e in (w .0, w .2))
-      (λ e. absurd (z (ap length (none-only (stands now s) (keysOf s) e))))
-
-  keys-standing : (key : Key) → any (sameKey key) (only (stands now s) (keysOf s)) ≡ stands now s key
-  keys-standing key =
-      any-only sameKey keys-alike (stands now s) (λ a b e. stands-alike a b e now s) key (keysOf s)
-      ∙ same-test (any (sameKey key) (keysOf s) && stands now s key) (stands now s key)
-      (λ e. and-both (any (sameKey key) (keysOf s)) (stands now s key) e .1) (λ e. both-true (stands-has now s key e) e)
-
-  some-stands : (key : Key) → stands now s key ≡ true → conditions now s ≡ 0 → ⊥
-  unfolding conditions
-  some-stands key e z = none-there (only (stands now s) (keysOf s)) z (keys-standing key ∙ e)
-    where
-      none-there : (ks : List Key) → length ks ≡ 0 → any (sameKey key) ks ≡ true → ⊥
-      none-there [] n w = true-false w (unfold any in refl)
-      none-there (k ∷ ks) n w = omega arith
-
   pub shown-held-back : ((report now s .loss ≡ 1) × (report now s .alarm ≡ 0)) ↔ ((p : ℕ) × AccountsForHeldBack h l now p)
   unfolding report
   shown-held-back = (
     λ e.
         let lost : loss now s ≡ true = bit-true (loss now s) (e .0) in
-        let k = stands-some (λ z. no-alarm lost z (e .1)) in
+        let k = stands-some now s (λ z. no-alarm lost z (e .1)) in
         let w = condition-accounted h l s o (k .0) now .0 (k .1) in
         (w .0, record { loss = loss-accounted h l s o now .0 lost; condition = (k .0, w .1) }),
     λ w.
         let lost : loss now s ≡ true = loss-accounted h l s o now .1 (w .1 .loss .0) (w .1 .loss .1) in
         let up : stands now s (w .1 .condition .0) ≡ true = condition-accounted h l s o (w .1 .condition .0) now .1 (w .0) (w .1 .condition .1) in
-        (true-bit (loss now s) lost, alarm-off lost (some-stands (w .1 .condition .0) up)),
+        (true-bit (loss now s) lost, alarm-off lost (some-stands now s (w .1 .condition .0) up)),
   )
     where
       no-alarm : loss now s ≡ true → conditions now s ≡ 0 → bitOf (lossAlarm (loss now s) (conditions now s)) ≡ 0 → ⊥
@@ -107,7 +108,7 @@ module _ (h : History) (l : ℕ) (s : Story) (o : story l h ≡ some s) (now : �
       same-length sameKey keys-alike (only (stands now s) (keysOf s)) keys
       (once-only sameKey keys-alike (stands now s) (λ a b e. stands-alike a b e now s) (keysOf s) (keys-once s)) once′
       (λ key.
-      keys-standing key
+      keys-standing now s key
       ∙ same-test (stands now s key) (any (sameKey key) keys)
       (λ e. each key .1 (condition-accounted h l s o key now .0 e))
       (λ e. let w = each key .0 e in condition-accounted h l s o key now .1 (w .0) (w .1)))

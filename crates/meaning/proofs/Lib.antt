@@ -13,3 +13,4 @@ pub mod Lives
 pub mod Timer
 pub mod Accounted
 pub mod Demand
+pub mod Readings
