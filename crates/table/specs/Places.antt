@@ -1,14 +1,26 @@
 -- The 64-bit set of occupied places: place i is occupied when set / 2 ^ i is odd. A row is gone through with the set halved at each record.
 -- Assumes nothing.
-use Prim.Native.Nat.{ℕ, zero, suc, _+_, _/_, _%_}
+use Prim.Native.Nat.{ℕ, zero, suc, _+_, _-_, _/_, _%_, _^_}
 use mathlib.Core.Bool.{Bool, cond, _&&_}
 use mathlib.Core.List.{List, [], _∷_}
-use lib.Dec.{eqb}
+use lib.Dec.{eqb, ltb}
 use Rattle.session.specs.declared.Session.{Session}
 
 -- the first place of the set is occupied
 abbrev pub firstOn : ℕ → Bool
 firstOn set = eqb (set % 2) 1
+
+-- place i of the set is occupied
+unfoldable pub occupiedAt : ℕ → ℕ → Bool
+occupiedAt set i = eqb (set / 2 ^ i % 2) 1
+
+-- the set with place i taken; the set itself past its 64 places
+unfoldable pub withPlace : ℕ → ℕ → ℕ
+withPlace set i = cond (ltb i 64) (cond (occupiedAt set i) set (set + 2 ^ i)) set
+
+-- the set with place i free
+unfoldable pub withoutPlace : ℕ → ℕ → ℕ
+withoutPlace set i = cond (occupiedAt set i) (set - 2 ^ i) set
 
 -- the lowest free place of the first n; n where there is none
 unfoldable pub lowestFree : ℕ → ℕ → ℕ
