@@ -7,28 +7,42 @@ use crate::line::number;
 use crate::line::packet;
 use crate::line::word;
 use crate::messages;
+use crate::words;
+use message::Message;
 use message::MessageAnswer;
 use rules::Received;
 use rules::Settings;
 use session::Session;
 ghost use mathlib.Core.Path.{_≡_};
-ghost use Rattle.session.specs.Steps.{opened, settled, unlockedAt, ccWritten};
+ghost use Rattle.session.specs.Steps.{opened, settled, lockedBy, unlockedAt, ccWritten};
 
-// The story's heading, and its opening.
-pub(crate) fn open(n: u64, title: &[u8], settings: Settings, reading: u64) -> Session
-    ensures { λ r. ⌜ r ≡ opened settings reading ⌝ }
+// Label 100, discriminator 17, own LSP, Global_ID 65,000, Node 0a000001, Tunnel 7 and LSP 2,
+// expected the same with Node 0a000002, Tunnel 9 and LSP 4.
+pub(crate) fn settings(period: u64, link: u64, lock: u64) -> Settings
+    ensures { λ r. ⌜ r .discriminator ≡ 17 ⌝ }
 {
-    word(b"story");
-    number(n);
-    word(b" ");
-    word(title);
-    end();
-    event(b"open", reading);
-    end();
-    session::opened_at(settings, reading)
+    let own = messages::mep(1, 65_000, 167_772_161, 458_754);
+    let expected = messages::mep(1, 65_000, 167_772_162, 589_828);
+    Settings {
+        label: 100,
+        discriminator: 17,
+        period: messages::middle(period),
+        own,
+        expected,
+        link: messages::small(link),
+        lock: messages::small(lock),
+    }
 }
 
-pub(crate) fn report(s: Session, now: u64) {
+pub(crate) fn open(w: [u64; 16]) -> Session
+    ensures { λ r. ⌜ r .crossing ≡ 0 ⌝ }
+{
+    event(b"open", w[1]);
+    end();
+    session::opened_at(settings(w[2], w[3], w[4]), w[1])
+}
+
+fn report(s: Session, now: u64) {
     let r = session::report_at(s, now);
     event(b"report", now);
     number(r.state as u64);
@@ -41,10 +55,12 @@ pub(crate) fn report(s: Session, now: u64) {
     end();
 }
 
-// On both sides of an edge.
+// One report, or two, on both sides of an edge.
 pub(crate) fn reports(s: Session, before: u64, after: u64) {
     report(s, before);
-    report(s, after);
+    if after != 0 {
+        report(s, after);
+    }
 }
 
 fn done(what: &[u8], reading: u64, s: Session) {
@@ -61,7 +77,9 @@ pub(crate) fn tick(s: Session, reading: u64) -> Session
     next
 }
 
-pub(crate) fn lock(s: Session, reading: u64) -> Session {
+pub(crate) fn lock(s: Session, reading: u64) -> Session
+    ensures { λ r. ⌜ r ≡ lockedBy (settled s reading) ⌝ }
+{
     let next = session::locked_by(session::settled_at(s, reading));
     done(b"lock", reading, next);
     next
@@ -75,56 +93,90 @@ pub(crate) fn unlock(s: Session, reading: u64) -> Session
     next
 }
 
-fn answered(what: &[u8], reading: u64, answer: u32, s: Session) {
-    event(what, reading);
+// The line of a message that is a `what`: CC, CV or FAULT.
+fn answered(what: u64, reading: u64, answer: u32) {
+    if what == words::CC {
+        word(b"cc");
+    }
+    if what == words::CV {
+        word(b"cv");
+    }
+    if what == words::FAULT {
+        word(b"fault");
+    }
+    number(reading);
     number(answer as u64);
     end();
-    report(s, reading);
 }
 
-fn accepted(s: Session, reading: u64, r: Received, answer: u32) -> Session {
+fn accepted(s: Session, reading: u64, r: Received, answer: u32) -> Session
+    ensures { λ n. ⌜ n .settings ≡ s .settings ⌝ }
+{
     if answer == 0 {
         return session::received_by(s, reading, r);
     }
     s
 }
 
-// The octets of a message, read, judged and received.
-pub(crate) fn receive(s: Session, reading: u64, what: &[u8], m: &[u8]) -> Session {
+fn take(s: Session, reading: u64, what: u64, m: Message) -> Session
+    ensures { λ n. ⌜ n .settings ≡ s .settings ⌝ }
+{
     let settings = s.settings;
+    let r = rules::received_as(settings, m);
+    let answer = session::received_answer(s, reading, r);
+    let next = accepted(s, reading, r, answer);
+    answered(what, reading, answer);
+    report(next, reading);
+    next
+}
+
+// The octets of a message, read, judged and received.
+fn receive(s: Session, reading: u64, what: u64, m: &[u8]) -> Session
+    ensures { λ n. ⌜ n .settings ≡ s .settings ⌝ }
+{
     let read = message::read_message(m);
     match read {
         MessageAnswer::Refused(n) => {
-            answered(what, reading, n, s);
+            answered(what, reading, n);
+            report(s, reading);
             s
         }
-        MessageAnswer::Read(message) => {
-            let r = rules::received_as(settings, message);
-            let answer = session::received_answer(s, reading, r);
-            let next = accepted(s, reading, r, answer);
-            answered(what, reading, answer, next);
-            next
-        }
+        MessageAnswer::Read(message) => take(s, reading, what, message),
     }
 }
 
-pub(crate) fn cc(s: Session, w: [u64; 8]) -> Session {
+pub(crate) fn cc(s: Session, w: [u64; 16]) -> Session
+    ensures { λ r. ⌜ r .settings ≡ s .settings ⌝ }
+{
     let mut b = [0u8; 28];
     bfd::write_cc(&mut b, messages::packet(w[2], w[3], w[4], w[5], w[6], w[7]));
-    receive(s, w[1], b"cc", &b)
+    receive(s, w[1], words::CC, &b)
 }
 
-pub(crate) fn cv(s: Session, w: [u64; 8]) -> Session {
+pub(crate) fn cv(s: Session, w: [u64; 16]) -> Session
+    ensures { λ r. ⌜ r .settings ≡ s .settings ⌝ }
+{
     let mut b = [0u8; 44];
     let p = messages::packet(w[2], 1, 2, 200, 51, w[3]);
     cv::write_cv(&mut b, p, messages::mep(w[4], w[5], w[6], w[7]));
-    receive(s, w[1], b"cv", &b)
+    receive(s, w[1], words::CV, &b)
 }
 
-pub(crate) fn fault(s: Session, w: [u64; 8]) -> Session {
+pub(crate) fn fault(s: Session, w: [u64; 16]) -> Session
+    ensures { λ r. ⌜ r .settings ≡ s .settings ⌝ }
+{
     let mut b = [0u8; 25];
     fault::write_fault(&mut b, messages::fault(w[2], w[3], w[4], w[5], w[6], w[7]));
-    receive(s, w[1], b"fault", &b)
+    receive(s, w[1], words::FAULT, &b)
+}
+
+// A literal message.
+pub(crate) fn octets(s: Session, w: [u64; 16]) -> Session
+    ensures { λ r. ⌜ r .settings ≡ s .settings ⌝ }
+{
+    let b = messages::literal(w);
+    let size = io::count(messages::small(w[3]) as isize, &b);
+    receive(s, w[1], w[2], &b[..size])
 }
 
 pub(crate) fn write_cc(s: Session, now: u64) -> Session

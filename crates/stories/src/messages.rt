@@ -4,21 +4,31 @@ use cv::MepId;
 use fault::Fault;
 use fault::GlobalId;
 use fault::IfId;
+ghost use mathlib.Core.Path.{_≡_};
+ghost use Prim.Native.Nat.{_%_};
 
 // The low part of a word of a row, as a number of 8, 16 or 32 bits.
-pub(crate) fn small(n: u64) -> u8 {
+pub(crate) fn small(n: u64) -> u8
+    ensures { λ r. ⌜ r ≡ n % 256 ⌝ }
+{
     (n % 256) as u8
 }
 
-pub(crate) fn short(n: u64) -> u16 {
+pub(crate) fn short(n: u64) -> u16
+    ensures { λ r. ⌜ r ≡ n % 65536 ⌝ }
+{
     (n % 65_536) as u16
 }
 
-pub(crate) fn middle(n: u64) -> u32 {
+pub(crate) fn middle(n: u64) -> u32
+    ensures { λ r. ⌜ r ≡ n % 4294967296 ⌝ }
+{
     (n % 4_294_967_296) as u32
 }
 
-pub(crate) fn mep(kind: u64, global: u64, node: u64, local: u64) -> MepId {
+pub(crate) fn mep(kind: u64, global: u64, node: u64, local: u64) -> MepId
+    ensures { λ r. ⌜ r .kind ≡ kind % 65536 ⌝ }
+{
     MepId {
         kind: short(kind),
         global: middle(global),
@@ -34,7 +44,9 @@ pub(crate) fn packet(
     multiplier: u64,
     my: u64,
     your: u64,
-) -> Packet {
+) -> Packet
+    ensures { λ r. ⌜ r .state ≡ state % 256 ⌝ }
+{
     Packet {
         diagnostic: small(diagnostic),
         state: small(state),
@@ -72,7 +84,9 @@ pub(crate) fn fault(
     present: u64,
     node: u64,
     interface: u64,
-) -> Fault {
+) -> Fault
+    ensures { λ r. ⌜ r .kind ≡ kind % 256 ⌝ }
+{
     let interface = if_id(present, node, interface);
     let global = global_id(present);
     Fault {
@@ -83,4 +97,27 @@ pub(crate) fn fault(
         interface,
         global,
     }
+}
+
+fn octet(word: u64, place: usize) -> u8 {
+    if place == 0 {
+        return small(word / 16_777_216);
+    }
+    if place == 1 {
+        return small(word / 65_536);
+    }
+    if place == 2 {
+        return small(word / 256);
+    }
+    small(word)
+}
+
+// The octets of a literal message, four to a word from the fourth on.
+pub(crate) fn literal(w: [u64; 16]) -> [u8; 44] {
+    let mut b = [0u8; 44];
+    for i in 0..44 {
+        let word = w[4 + i / 4];
+        b[i] = octet(word, i % 4);
+    }
+    b
 }

@@ -4,12 +4,12 @@ use crate::messages::middle;
 use crate::messages::short;
 use crate::messages::small;
 use conditions::Condition;
-use conditions::Conditions;
 use rules::Key;
 use session::Peer;
 use session::Session;
+ghost use mathlib.Core.Path.{_≡_};
 
-pub(crate) fn peer(s: Session, w: [u64; 8]) {
+pub(crate) fn own(s: Session, w: [u64; 16]) {
     let peer = Peer {
         remote: middle(w[3]),
         multiplier: small(w[4]),
@@ -19,42 +19,29 @@ pub(crate) fn peer(s: Session, w: [u64; 8]) {
     let mut t = s;
     t.state = small(w[2]);
     t.peer = peer;
+    t.timed = w[7];
+    t.crossing = small(w[8]);
+    t.crossed = w[9];
     sound(t, w[1]);
 }
 
-pub(crate) fn dated(s: Session, w: [u64; 8]) {
+pub(crate) fn settings(s: Session, w: [u64; 16]) {
+    let mut next = s.settings;
+    next.label = middle(w[2]);
+    next.discriminator = middle(w[3]);
+    next.period = middle(w[4]);
+    next.link = small(w[7]);
+    next.lock = small(w[8]);
+    let own = short(w[5]);
+    let expected = short(w[6]);
+    next.own.kind = own;
+    next.expected.kind = expected;
     let mut t = s;
-    t.timed = w[2];
-    t.crossing = small(w[3]);
-    t.crossed = w[4];
+    t.settings = next;
     sound(t, w[1]);
 }
 
-pub(crate) fn circuit(s: Session, w: [u64; 8]) {
-    let label = middle(w[2]);
-    let discriminator = middle(w[3]);
-    let period = middle(w[4]);
-    let mut t = s;
-    t.settings.label = label;
-    t.settings.discriminator = discriminator;
-    t.settings.period = period;
-    sound(t, w[1]);
-}
-
-pub(crate) fn choice(s: Session, w: [u64; 8]) {
-    let own = short(w[2]);
-    let expected = short(w[3]);
-    let link = small(w[4]);
-    let lock = small(w[5]);
-    let mut t = s;
-    t.settings.own.kind = own;
-    t.settings.expected.kind = expected;
-    t.settings.link = link;
-    t.settings.lock = lock;
-    sound(t, w[1]);
-}
-
-fn place(w: [u64; 8]) -> Condition {
+fn place(w: [u64; 16]) -> Condition {
     let key = Key {
         node: middle(w[4]),
         interface: 4,
@@ -69,29 +56,24 @@ fn place(w: [u64; 8]) -> Condition {
     }
 }
 
-fn with_places(s: Session, third: Condition, fourth: Condition) -> Session {
-    let old = s.conditions;
-    let first = old.first;
-    let second = old.second;
-    let places = Conditions {
-        first,
-        second,
-        third,
-        fourth,
-    };
+pub(crate) fn third(s: Session, w: [u64; 16]) -> Session
+    ensures { λ r. ⌜ r .settings ≡ s .settings ⌝ }
+{
+    let c = place(w);
+    let mut places = s.conditions;
+    places.third = c;
     let mut t = s;
     t.conditions = places;
     t
 }
 
-pub(crate) fn third(s: Session, w: [u64; 8]) -> Session {
-    let old = s.conditions;
-    let fourth = old.fourth;
-    with_places(s, place(w), fourth)
-}
-
-pub(crate) fn fourth(s: Session, w: [u64; 8]) -> Session {
-    let old = s.conditions;
-    let third = old.third;
-    with_places(s, third, place(w))
+pub(crate) fn fourth(s: Session, w: [u64; 16]) -> Session
+    ensures { λ r. ⌜ r .settings ≡ s .settings ⌝ }
+{
+    let c = place(w);
+    let mut places = s.conditions;
+    places.fourth = c;
+    let mut t = s;
+    t.conditions = places;
+    t
 }
