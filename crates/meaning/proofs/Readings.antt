@@ -33,7 +33,9 @@ use Rattle.conditions.specs.Taking.{empty}
 use Rattle.conditions.specs.Soundness.{placeSound, clash, noClash, placesSound, conditionsSound}
 use Rattle.session.specs.declared.Session.{Session}
 use Rattle.session.specs.Soundness.{ownFits, sessionSound}
+use Rattle.table.specs.Places.{occupiedAt}
 use Rattle.table.specs.Table.{Table, openOf, sameLabel, sameDiscriminator, inOrder, answer, absent}
+use Rattle.table.proofs.OpenPlaces.{Held, TwoHeld, any-held, held-any, once-two, two-once}
 use Rattle.meaning.specs.Stories.{Story, settingsOf}
 use Rattle.meaning.specs.Standing.{loss, stands, conditions, report}
 use Rattle.meaning.specs.Histories.{History, story, labels}
@@ -149,50 +151,77 @@ one-fails p xs = (
 
 -- 26, the table
 
--- the open record at the i-th of the open places
-abbrev pub openAt : Table → ℕ → Session
-openAt t i = getD (openOf t) i absent
+-- the record at place i of the row
+abbrev pub recordAt : Table → ℕ → Session
+recordAt t i = getD (t .row) i absent
 
--- 26, a table that is not in order: not 64 records, an open record that is not sound at the clock, or two open records at
--- different places with one label or one discriminator
+-- place i is occupied
+abbrev pub Occupied : Table → ℕ → Type 0
+Occupied t i = (i < length (t .row)) × (occupiedAt (t .occupied) i ≡ true)
+
+-- 26, a table that is not in order: the row is not of 64, or there is an occupied place whose record is not sound at the clock, or
+-- there are two different occupied places with one label or one discriminator
 pub data OutOfOrder (t : Table) : Type 0 where
   notOf64 : (length (t .row) ≡ 64 → ⊥) → OutOfOrder t
-  unsound : (r : Session) → List·Memᴰ r (openOf t) → sessionSound r (t .clock) ≡ false → OutOfOrder t
-  oneLabel : (i j : ℕ) → i < j → j < length (openOf t) → openAt t i .settings .label ≡ openAt t j .settings .label → OutOfOrder t
-  oneDiscriminator : (i j : ℕ) → i < j → j < length (openOf t) → openAt t i .settings .discriminator ≡ openAt t j .settings .discriminator
-      → OutOfOrder t
-
--- the four ways in the order of the test
-abbrev OrderWays : Table → Type 0
-OrderWays t =
-    (((length (t .row) ≡ 64 → ⊥) ⊎ ((r : Session) × List·Memᴰ r (openOf t) × (sessionSound r (t .clock) ≡ false))) ⊎ Pair sameLabel absent (openOf t))
-    ⊎ Pair sameDiscriminator absent (openOf t)
+  unsound : (i : ℕ) → Occupied t i → sessionSound (recordAt t i) (t .clock) ≡ false → OutOfOrder t
+  oneLabel : (i j : ℕ) → i < j → Occupied t i → Occupied t j → recordAt t i .settings .label ≡ recordAt t j .settings .label → OutOfOrder t
+  oneDiscriminator : (i j : ℕ) → i < j → Occupied t i → Occupied t j
+      → recordAt t i .settings .discriminator ≡ recordAt t j .settings .discriminator → OutOfOrder t
 
 module _ (t : Table) where
-  order-fails : (inOrder t ≡ false) ↔ OrderWays t
+  abbrev UnsoundPlace : Type 0
+  UnsoundPlace = Held (λ r. not (sessionSound r (t .clock))) absent (t .occupied) (t .row)
+
+  abbrev Two : (Session → Session → Bool) → Type 0
+  Two same = TwoHeld same absent (t .occupied) (t .row)
+
+  -- the four ways in the order of the test
+  abbrev OrderWays : Type 0
+  OrderWays = (((length (t .row) ≡ 64 → ⊥) ⊎ UnsoundPlace) ⊎ Two sameLabel) ⊎ Two sameDiscriminator
+
+  one-unsound : (not (any (λ r. not (sessionSound r (t .clock))) (openOf t)) ≡ false) ↔ UnsoundPlace
+  one-unsound = (
+    λ e. any-held _ absent (t .occupied) (t .row) (not-false _ e),
+    λ w. rw (held-any (λ r. not (sessionSound r (t .clock))) absent (t .occupied) (t .row) (w .place) (w .inside) (w .taken) (w .passes)),
+  )
+
+  two-alike : (same : Session → Session → Bool) → (once same (openOf t) ≡ false) ↔ Two same
+  two-alike same = (
+    once-two same absent (t .occupied) (t .row),
+    λ w. two-once same absent (t .occupied) (t .row) (w .first) (w .second) (w .before) (w .inside) (w .firstTaken) (w .secondTaken) (w .alike),
+  )
+
+  order-fails : (inOrder t ≡ false) ↔ OrderWays
   unfolding inOrder
   order-fails =
-      either-fails
-      (either-fails
-      (either-fails (differs (length (t .row)) 64) (one-fails (λ r. sessionSound r (t .clock)) (openOf t)))
-      (twice sameLabel absent (openOf t)))
-      (twice sameDiscriminator absent (openOf t))
+      either-fails (either-fails (either-fails (differs (length (t .row)) 64) one-unsound) (two-alike sameLabel)) (two-alike sameDiscriminator)
 
   -- 26 of the table
   pub reading-26 : (inOrder t ≡ false) ↔ OutOfOrder t
   reading-26 = (λ e. told (order-fails .0 e), λ w. order-fails .1 (untold w))
     where
-      told : OrderWays t → OutOfOrder t
-      told (inl (inl (inl h))) = notOf64 h
-      told (inl (inl (inr w))) = unsound (w .0) (w .1) (w .2)
-      told (inl (inr w)) = oneLabel (w .first) (w .second) (w .before) (w .inside) (eqb-true _ _ (w .alike))
-      told (inr w) = oneDiscriminator (w .first) (w .second) (w .before) (w .inside) (eqb-true _ _ (w .alike))
+      firstOf : (same : Session → Session → Bool) (w : Two same) → Occupied t (w .first)
+      firstOf same w = (omega (arith, w .before, w .inside), w .firstTaken)
 
-      untold : OutOfOrder t → OrderWays t
+      secondOf : (same : Session → Session → Bool) (w : Two same) → Occupied t (w .second)
+      secondOf same w = (w .inside, w .secondTaken)
+
+      told : OrderWays → OutOfOrder t
+      told (inl (inl (inl h))) = notOf64 h
+      told (inl (inl (inr w))) = unsound (w .place) (w .inside, w .taken) (not-true _ (w .passes))
+      told (inl (inr w)) = oneLabel (w .first) (w .second) (w .before) (firstOf sameLabel w) (secondOf sameLabel w) (eqb-true _ _ (w .alike))
+      told (inr w) =
+          oneDiscriminator (w .first) (w .second) (w .before) (firstOf sameDiscriminator w) (secondOf sameDiscriminator w) (eqb-true _ _ (w .alike))
+
+      two : (same : Session → Session → Bool) (i j : ℕ) → i < j → Occupied t i → Occupied t j → same (recordAt t i) (recordAt t j) ≡ true → Two same
+      two same i j b o u q =
+          record { first = i; second = j; before = b; inside = u .0; firstTaken = o .1; secondTaken = u .1; alike = q }
+
+      untold : OutOfOrder t → OrderWays
       untold (notOf64 h) = inl (inl (inl h))
-      untold (unsound r m e) = inl (inl (inr (r, m, e)))
-      untold (oneLabel i j b h e) = inl (inr (record { first = i; second = j; before = b; inside = h; alike = eq-eqb _ _ e }))
-      untold (oneDiscriminator i j b h e) = inr (record { first = i; second = j; before = b; inside = h; alike = eq-eqb _ _ e })
+      untold (unsound i o e) = inl (inl (inr (record { place = i; inside = o .0; taken = o .1; passes = ap not e })))
+      untold (oneLabel i j b o u e) = inl (inr (two sameLabel i j b o u (eq-eqb _ _ e)))
+      untold (oneDiscriminator i j b o u e) = inr (two sameDiscriminator i j b o u (eq-eqb _ _ e))
 
   -- 26 is then what every call says
   pub answer-26 : (c : Call) → inOrder t ≡ false → answer t c ≡ numberOnly c 26

@@ -47,11 +47,11 @@ occupied-ones (suc n) x h =
 
 -- ---- one place
 
-at-zero : (x : ℕ) → occupiedAt x 0 ≡ firstOn x
+pub at-zero : (x : ℕ) → occupiedAt x 0 ≡ firstOn x
 unfolding occupiedAt
 at-zero x = ap (λ (y : ℕ). eqb (y % 2) 1) (div-one x)
 
-at-suc : (x i : ℕ) → occupiedAt x (suc i) ≡ occupiedAt (x / 2) i
+pub at-suc : (x i : ℕ) → occupiedAt x (suc i) ≡ occupiedAt (x / 2) i
 unfolding occupiedAt
 at-suc x i = ap (λ (y : ℕ). eqb (y % 2) 1) (ap (λ (j : ℕ). x / 2 ^ j) (sym (one-add i)) ∙ sym (shr-shr x 1 i))
 
