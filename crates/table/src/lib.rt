@@ -1,12 +1,16 @@
 // The table beside its row: the clock, and the 64-bit set of occupied places.
 mod occupied;
 
+use cv::MepId;
 pub use occupied::is_occupied;
 pub use occupied::lowest_free;
 pub use occupied::open_count;
 pub use occupied::with_place;
 pub use occupied::without_place;
+use rules::Settings;
+use session::Session;
 ghost use mathlib.Core.Path.{_≡_};
+ghost use Rattle.table.specs.Table as Table;
 
 // What is lent beside the row.
 #[repr(C)]
@@ -23,4 +27,26 @@ pub fn first_head() -> Head
         clock: 0,
         occupied: 0,
     }
+}
+
+// What a place past the row's end gives. It is never stored.
+pub fn absent() -> Session
+    ensures { λ r. ⌜ r ≡ Table.absent ⌝ }
+{
+    let id = MepId {
+        kind: 0,
+        global: 0,
+        node: 0,
+        local: 0,
+    };
+    let settings = Settings {
+        label: 0,
+        discriminator: 0,
+        period: 0,
+        own: id,
+        expected: id,
+        link: 0,
+        lock: 0,
+    };
+    session::opened_at(settings, 0)
 }

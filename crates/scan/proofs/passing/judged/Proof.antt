@@ -1,0 +1,14 @@
+-- `scan::judged` meets its contract.
+-- Assumes nothing.
+use borrow.Author.Needs.{needs}
+use Rattle.scan.specs.Passing.{judgedOf}
+use Rattle.scan.proofs.passing.judged.Statement.{statement}
+use Rattle.scan.proofs.passing.judged.Tie as tie
+
+pub judged-spec : {M : Type 1} → statement M
+unfolding judgedOf
+judged-spec =
+    tie.close
+    (tie.spec
+    (λ c κs. search needs)
+    (λ c. rw (c .apart-by .ensures)))

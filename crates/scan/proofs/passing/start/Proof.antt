@@ -1,0 +1,14 @@
+-- `scan::start` meets its contract.
+-- Assumes nothing.
+use borrow.Author.Needs.{needs}
+use Rattle.scan.specs.Passing.{startOf}
+use Rattle.scan.proofs.passing.start.Statement.{statement}
+use Rattle.scan.proofs.passing.start.Tie as tie
+
+pub start-spec : {M : Type 1} → statement M
+unfolding startOf
+start-spec =
+    tie.close
+    (tie.spec
+    (λ c κs. search needs)
+    (λ c. rw (c .places-of .ensures)))
