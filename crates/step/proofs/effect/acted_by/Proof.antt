@@ -1,0 +1,35 @@
+-- `step::acted_by` meets its contract.
+-- Assumes nothing.
+use borrow.Author.Needs.{needs}
+use Rattle.step.specs.Stepping.{acted}
+use Rattle.step.proofs.effect.acted_by.Statement.{statement}
+use Rattle.step.proofs.effect.acted_by.Tie as tie
+
+pub acted-by-spec : {M : Type 1} → statement M
+unfolding acted
+acted-by-spec =
+    tie.close
+    (tie.spec
+    (λ c. search needs)
+    (λ c. search needs)
+    (λ c κs. search needs)
+    (λ c. search needs)
+    (λ c. search needs)
+    (λ c κs. search needs)
+    (λ c. search needs)
+    (λ c κs. search needs)
+    (λ c. search needs)
+    (λ c κs. search needs)
+    (λ c. search needs)
+    (λ c. search needs)
+    (λ c κs. search needs)
+    (λ c. search needs)
+    (λ c. rw (c .enum-told .given .1))
+    (λ c. rw (c .opened-at .ensures, c .before .before .q .given .1))
+    (λ c. rw (c .enum-told2 .given .1))
+    (λ c. rw (c .locked-by .ensures, c .before .enum-told3 .given .1))
+    (λ c. rw (c .unlocked-at .ensures, c .before .before .q2 .given .1))
+    (λ c. rw (c .read-effect .ensures, c .before .before .q3 .given .1))
+    (λ c. rw (c .enum-told4 .given .1))
+    (λ c. rw (c .cc-written .ensures, c .before .enum-told5 .given .1))
+    (λ c. rw (c .enum-told6 .given .1)))
