@@ -1,5 +1,5 @@
 -- The decision and the step, from the scan's summary, the head, the request and the one record that it concerns. This is what the code is proved to do;
--- `proofs/Stepped.antt` says that it is the table's step.
+-- `proofs/TableStep.antt` says that it is the table's step.
 -- Assumes nothing.
 use Prim.Native.Nat.{ℕ}
 use mathlib.Core.Bool.{Bool, cond}
@@ -18,7 +18,7 @@ use Rattle.session.specs.Steps.{opened, lockedBy, unlockedAt, ccWritten}
 use Rattle.session.specs.Reception.{receivedAnswer, receivedBy}
 use Rattle.table.specs.declared.Head.{Head}
 use Rattle.table.specs.Places.{lowestFree, occupiedOf, withPlace, withoutPlace}
-use Rattle.table.specs.Table.{absent}
+use Rattle.table.specs.Table.{Table, absent}
 use Rattle.scan.specs.declared.Summary.{Summary}
 use Rattle.scan.specs.Passing.{summaryOf}
 use Rattle.step.specs.declared.Request.{Request}
@@ -85,17 +85,21 @@ headAfter s head (ReportOn l) = head
 headAfter s head (WriteCc l n) = head
 headAfter s head (WriteCv l n) = head
 
--- the place that an accepted request stores to; 64 is none
+-- no row is that long
+abbrev pub nowhere : ℕ
+nowhere = 18446744073709551615
+
+-- the place that an accepted request stores to
 unfoldable pub storedAt : Summary → Head → Request → ℕ
-storedAt s head (Tick u) = 64
+storedAt s head (Tick u) = nowhere
 storedAt s head (Open g u) = lowestFree 64 (head .occupied)
-storedAt s head (Close l u) = 64
+storedAt s head (Close l u) = nowhere
 storedAt s head (Lock l u) = s .place
 storedAt s head (Unlock l u) = s .place
 storedAt s head (Receive l m u) = s .place
-storedAt s head (ReportOn l) = 64
+storedAt s head (ReportOn l) = nowhere
 storedAt s head (WriteCc l n) = s .place
-storedAt s head (WriteCv l n) = 64
+storedAt s head (WriteCv l n) = nowhere
 
 abbrev pub readEffect : Session → ℕ → MessageAnswer → Session
 readEffect r reading (Read m) = receivedBy r reading (receivedAs (r .settings) m)
@@ -120,8 +124,12 @@ stepOf s head q r =
     record {
       outcome = record { before = r; head = cond (eqb n 0) (headAfter s head q) head; answer = n };
       after = acted q r;
-      place = cond (eqb n 0) (storedAt s head q) 64;
+      place = cond (eqb n 0) (storedAt s head q) nowhere;
     }
+
+-- a lent row with its head, as the table
+abbrev pub tableOf : List Session → Head → Table
+tableOf row head = record { row = row; clock = head .clock; occupied = head .occupied }
 
 -- the request on a row: the scan, the record of the label, the step
 unfoldable pub rowStep : List Session → Head → Request → Stepped

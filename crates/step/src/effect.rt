@@ -10,7 +10,10 @@ use table::Head;
 ghost use mathlib.Core.Path.{_≡_};
 ghost use mathlib.Core.Bool.{cond};
 ghost use lib.Dec.{eqb};
-ghost use Rattle.step.specs.Stepping.{numbered, at, headAfter, storedAt, readEffect, acted, stepOf};
+ghost use Rattle.step.specs.Stepping.{numbered, at, nowhere, headAfter, storedAt, readEffect, acted, stepOf};
+
+// No row is that long.
+const NOWHERE: usize = 18_446_744_073_709_551_615;
 
 fn head_at(head: Head, reading: u64) -> Head
     ensures { λ r. ⌜ r ≡ at head reading ⌝ }
@@ -56,15 +59,15 @@ fn stored_at(s: Summary, head: Head, q: Request) -> usize
     ensures { λ r. ⌜ r ≡ storedAt s head q ⌝ }
 {
     match q {
-        Request::Tick(_) => 64,
+        Request::Tick(_) => NOWHERE,
         Request::Open(_, _) => table::lowest_free(head.occupied) as usize,
-        Request::Close(_, _) => 64,
+        Request::Close(_, _) => NOWHERE,
         Request::Lock(_, _) => s.place,
         Request::Unlock(_, _) => s.place,
         Request::Receive(_, _, _) => s.place,
-        Request::ReportOn(_) => 64,
+        Request::ReportOn(_) => NOWHERE,
         Request::WriteCc(_, _) => s.place,
-        Request::WriteCv(_, _) => 64,
+        Request::WriteCv(_, _) => NOWHERE,
     }
 }
 
@@ -106,12 +109,12 @@ fn head_if(accepted: bool, after: Head, head: Head) -> Head
 }
 
 fn place_if(accepted: bool, place: usize) -> usize
-    ensures { λ r. ⌜ r ≡ cond accepted place 64 ⌝ }
+    ensures { λ r. ⌜ r ≡ cond accepted place nowhere ⌝ }
 {
     if accepted {
         return place;
     }
-    64
+    NOWHERE
 }
 
 // The step: a refusal stores nothing and moves no clock.

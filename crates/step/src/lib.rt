@@ -35,7 +35,7 @@ pub struct Outcome {
     pub answer: u32,
 }
 
-// The outcome, the record to store, and its place; 64 is none.
+// The outcome, the record to store, and its place; past the row's end nothing is stored.
 pub struct Stepped {
     pub outcome: Outcome,
     pub after: Session,
