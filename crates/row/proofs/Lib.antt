@@ -5,3 +5,4 @@ pub mod RecAgain
 pub mod Plains
 pub mod Lends
 pub mod WordArray
+pub mod TypeParts
