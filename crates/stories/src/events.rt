@@ -6,8 +6,6 @@ use crate::line::mep_id;
 use crate::line::number;
 use crate::line::packet;
 use crate::line::word;
-use crate::messages;
-use crate::words;
 use message::Message;
 use message::MessageAnswer;
 use rules::Received;
@@ -21,16 +19,16 @@ ghost use Rattle.session.specs.Steps.{opened, settled, lockedBy, unlockedAt, cc
 pub(crate) fn settings(period: u64, link: u64, lock: u64) -> Settings
     ensures { λ r. ⌜ r .discriminator ≡ 17 ⌝ }
 {
-    let own = messages::mep(1, 65_000, 167_772_161, 458_754);
-    let expected = messages::mep(1, 65_000, 167_772_162, 589_828);
+    let own = script::mep(1, 65_000, 167_772_161, 458_754);
+    let expected = script::mep(1, 65_000, 167_772_162, 589_828);
     Settings {
         label: 100,
         discriminator: 17,
-        period: messages::middle(period),
+        period: script::middle(period),
         own,
         expected,
-        link: messages::small(link),
-        lock: messages::small(lock),
+        link: script::small(link),
+        lock: script::small(lock),
     }
 }
 
@@ -95,13 +93,13 @@ pub(crate) fn unlock(s: Session, reading: u64) -> Session
 
 // The line of a message that is a `what`: CC, CV or FAULT.
 fn answered(what: u64, reading: u64, answer: u32) {
-    if what == words::CC {
+    if what == script::CC {
         word(b"cc");
     }
-    if what == words::CV {
+    if what == script::CV {
         word(b"cv");
     }
-    if what == words::FAULT {
+    if what == script::FAULT {
         word(b"fault");
     }
     number(reading);
@@ -149,33 +147,33 @@ pub(crate) fn cc(s: Session, w: [u64; 16]) -> Session
     ensures { λ r. ⌜ r .settings ≡ s .settings ⌝ }
 {
     let mut b = [0u8; 28];
-    bfd::write_cc(&mut b, messages::packet(w[2], w[3], w[4], w[5], w[6], w[7]));
-    receive(s, w[1], words::CC, &b)
+    bfd::write_cc(&mut b, script::packet(w[2], w[3], w[4], w[5], w[6], w[7]));
+    receive(s, w[1], script::CC, &b)
 }
 
 pub(crate) fn cv(s: Session, w: [u64; 16]) -> Session
     ensures { λ r. ⌜ r .settings ≡ s .settings ⌝ }
 {
     let mut b = [0u8; 44];
-    let p = messages::packet(w[2], 1, 2, 200, 51, w[3]);
-    cv::write_cv(&mut b, p, messages::mep(w[4], w[5], w[6], w[7]));
-    receive(s, w[1], words::CV, &b)
+    let p = script::packet(w[2], 1, 2, 200, 51, w[3]);
+    cv::write_cv(&mut b, p, script::mep(w[4], w[5], w[6], w[7]));
+    receive(s, w[1], script::CV, &b)
 }
 
 pub(crate) fn fault(s: Session, w: [u64; 16]) -> Session
     ensures { λ r. ⌜ r .settings ≡ s .settings ⌝ }
 {
     let mut b = [0u8; 25];
-    fault::write_fault(&mut b, messages::fault(w[2], w[3], w[4], w[5], w[6], w[7]));
-    receive(s, w[1], words::FAULT, &b)
+    fault::write_fault(&mut b, script::fault(w[2], w[3], w[4], w[5], w[6], w[7]));
+    receive(s, w[1], script::FAULT, &b)
 }
 
 // A literal message.
 pub(crate) fn octets(s: Session, w: [u64; 16]) -> Session
     ensures { λ r. ⌜ r .settings ≡ s .settings ⌝ }
 {
-    let b = messages::literal(w);
-    let size = io::count(messages::small(w[3]) as isize, &b);
+    let b = script::literal(w);
+    let size = io::count(script::small(w[3]) as isize, &b);
     receive(s, w[1], w[2], &b[..size])
 }
 

@@ -1,10 +1,10 @@
 // The record with other numbers in it, for the lines on soundness.
 use crate::events::sound;
-use crate::messages::middle;
-use crate::messages::short;
-use crate::messages::small;
 use conditions::Condition;
 use rules::Key;
+use script::middle;
+use script::short;
+use script::small;
 use session::Peer;
 use session::Session;
 ghost use mathlib.Core.Path.{_≡_};

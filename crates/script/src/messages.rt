@@ -1,4 +1,4 @@
-// The messages of the rows.
+// The numbers of a line, and the messages that they make.
 use bfd::Packet;
 use cv::MepId;
 use fault::Fault;
@@ -6,28 +6,29 @@ use fault::GlobalId;
 use fault::IfId;
 ghost use mathlib.Core.Path.{_≡_};
 ghost use Prim.Native.Nat.{_%_};
+ghost use lib.ListN.{length};
 
-// The low part of a word of a row, as a number of 8, 16 or 32 bits.
-pub(crate) fn small(n: u64) -> u8
+// The low part of a word, as a number of 8, 16 or 32 bits.
+pub fn small(n: u64) -> u8
     ensures { λ r. ⌜ r ≡ n % 256 ⌝ }
 {
     (n % 256) as u8
 }
 
-pub(crate) fn short(n: u64) -> u16
+pub fn short(n: u64) -> u16
     ensures { λ r. ⌜ r ≡ n % 65536 ⌝ }
 {
     (n % 65_536) as u16
 }
 
-pub(crate) fn middle(n: u64) -> u32
+pub fn middle(n: u64) -> u32
     ensures { λ r. ⌜ r ≡ n % 4294967296 ⌝ }
 {
     (n % 4_294_967_296) as u32
 }
 
-pub(crate) fn mep(kind: u64, global: u64, node: u64, local: u64) -> MepId
-    ensures { λ r. ⌜ r .kind ≡ kind % 65536 ⌝ }
+pub fn mep(kind: u64, global: u64, node: u64, local: u64) -> MepId
+    ensures { λ r. ⌜ r ≡ record { kind = kind % 65536; global = global % 4294967296; node = node % 4294967296; local = local % 4294967296 } ⌝ }
 {
     MepId {
         kind: short(kind),
@@ -37,7 +38,7 @@ pub(crate) fn mep(kind: u64, global: u64, node: u64, local: u64) -> MepId
     }
 }
 
-pub(crate) fn packet(
+pub fn packet(
     state: u64,
     diagnostic: u64,
     flags: u64,
@@ -77,14 +78,7 @@ fn global_id(present: u64) -> GlobalId {
     GlobalId::Present(middle(present))
 }
 
-pub(crate) fn fault(
-    kind: u64,
-    flags: u64,
-    refresh: u64,
-    present: u64,
-    node: u64,
-    interface: u64,
-) -> Fault
+pub fn fault(kind: u64, flags: u64, refresh: u64, present: u64, node: u64, interface: u64) -> Fault
     ensures { λ r. ⌜ r .kind ≡ kind % 256 ⌝ }
 {
     let interface = if_id(present, node, interface);
@@ -113,7 +107,9 @@ fn octet(word: u64, place: usize) -> u8 {
 }
 
 // The octets of a literal message, four to a word from the fourth on.
-pub(crate) fn literal(w: [u64; 16]) -> [u8; 44] {
+pub fn literal(w: [u64; 16]) -> [u8; 44]
+    ensures { λ r. ⌜ length r ≡ 44 ⌝ }
+{
     let mut b = [0u8; 44];
     for i in 0..44 {
         let word = w[4 + i / 4];

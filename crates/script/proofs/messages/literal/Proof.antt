@@ -1,11 +1,13 @@
 use Prim.Native.Nat.{_≤_, _-_}
 use native.Mathlib.Omega.{arith}
 use borrow.Author.Needs.{needs}
-use Rattle.stories.proofs.messages.literal.Statement.{statement}
-use Rattle.stories.proofs.messages.literal.Tie as tie
+use mathlib.Core.Path.{_≡_}
+use lib.ListN.{length}
+use Rattle.script.proofs.messages.literal.Statement.{statement}
+use Rattle.script.proofs.messages.literal.Tie as tie
 
 abbrev Inv-loop : tie.InvT-loop
-Inv-loop w b₀ i₀ b i = i ≤ 44
+Inv-loop w b₀ i₀ b i = (i ≤ 44) × (length b ≡ 44)
 
 abbrev μ-loop : tie.MeasureT-loop
 μ-loop w b₀ i₀ b i = 44 - i
@@ -16,7 +18,7 @@ literal-spec =
     (tie.spec
     Inv-loop
     μ-loop
-    (λ c. omega arith)
+    (λ c. (omega arith, search needs))
     (λ c. omega arith)
     (λ c. omega arith)
     (λ c. omega arith)
@@ -24,5 +26,5 @@ literal-spec =
     (λ c. omega arith)
     (λ c. omega arith)
     (λ c. omega arith)
-    (λ c. omega arith)
-    (λ c. search needs))
+    (λ c. (omega arith, search needs))
+    (λ c. c .before .loop .inv .1))
