@@ -82,11 +82,11 @@ place-taken l on (r ∷ rs) h =
     (λ o. rw o (at-suc on (placeOf l (on / 2) rs) ∙ place-taken l (on / 2) rs (omega (arith, rw o at h))))
 
 -- ---- the octets of a CC and of a CV
-cc-length : (r : Session) (now : ℕ) → length (ccOctetsAt r now) ≡ 28
+pub cc-length : (r : Session) (now : ℕ) → length (ccOctetsAt r now) ≡ 28
 unfolding ccOctetsAt packetOctets
 cc-length r now = refl
 
-cv-length : (r : Session) (now : ℕ) → length (cvOctetsAt r now) ≡ 44
+pub cv-length : (r : Session) (now : ℕ) → length (cvOctetsAt r now) ≡ 44
 unfolding cvOctetsAt packetOctets mepOctets
 cv-length r now = refl
 

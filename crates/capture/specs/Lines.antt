@@ -1,0 +1,85 @@
+-- The line that `watch` prints for an answer, as octets; and octets put one behind the other into a lent buffer.
+-- Assumes nothing.
+use Prim.Native.Nat.{ℕ, zero, suc, _+_, _/_, _%_}
+use mathlib.Core.Bool.{cond}
+use mathlib.Core.List.{List, [], _∷_, _++_}
+use lib.Dec.{eqb, ltb}
+use lib.ListN.{length, set}
+use Rattle.rules.specs.declared.Report.{Report}
+use Rattle.rules.specs.Calls.{Act, Close, Lock, Unlock, Receive, ReportOn, WriteCc, WriteCv, Call, Tick, Open, On, Said}
+use Rattle.session.specs.Queries.{reportAt, ccOctetsAt, cvOctetsAt}
+use Rattle.step.specs.declared.Outcome.{Outcome}
+use Rattle.step.specs.declared.Request.{Request}
+use Rattle.step.specs.declared.Request.the-variants as R
+
+-- a number in decimal, of at most k digits
+unfoldable pub digits : ℕ → ℕ → List ℕ
+digits zero n = []
+digits (suc k) n = cond (ltb n 10) [] (digits k (n / 10)) ++ (48 + n % 10) ∷ []
+
+-- a 64-bit number has at most 20
+abbrev pub decimal : ℕ → List ℕ
+decimal n = digits 20 n
+
+-- 0 to 9, a to f
+abbrev pub hexDigit : ℕ → ℕ
+hexDigit d = cond (ltb d 10) (48 + d) (87 + d)
+
+unfoldable pub hex : List ℕ → List ℕ
+hex [] = []
+hex (b ∷ bs) = hexDigit (b / 16 % 16) ∷ hexDigit (b % 16) ∷ hex bs
+
+-- a space before a number
+abbrev pub spaced : ℕ → List ℕ
+spaced n = 32 ∷ decimal n
+
+unfoldable pub sevenNumbers : Report → List ℕ
+sevenNumbers r =
+    spaced (r .state) ++ spaced (r .crossing) ++ spaced (r .loss) ++ spaced (r .alarm) ++ spaced (r .rdi) ++ spaced (r .blocked) ++ spaced (r .conditions)
+
+-- what stands behind an accepted answer
+abbrev pub actText : Act → Said → List ℕ
+actText (Close u) a = []
+actText (Lock u) a = []
+actText (Unlock u) a = []
+actText (Receive m u) a = []
+actText ReportOn a = sevenNumbers (a .report)
+actText (WriteCc b) a = 32 ∷ hex (a .buffer)
+actText (WriteCv b) a = 32 ∷ hex (a .buffer)
+
+abbrev pub callText : Call → Said → List ℕ
+callText (Tick u) a = []
+callText (Open g u) a = []
+callText (On l act) a = actText act a
+
+-- record number and answer; after a report's 0 its seven numbers, after a write's 0 the octets in hex
+unfoldable pub line : ℕ → Call → Said → List ℕ
+line number c a = decimal number ++ spaced (a .number) ++ cond (eqb (a .number) 0) (callText c a) [] ++ 10 ∷ []
+
+-- the same from the outcome of a request
+abbrev pub requestText : Request → Outcome → List ℕ
+requestText (R.Tick u) o = []
+requestText (R.Open g u) o = []
+requestText (R.Close l u) o = []
+requestText (R.Lock l u) o = []
+requestText (R.Unlock l u) o = []
+requestText (R.Receive l m u) o = []
+requestText (R.ReportOn l) o = sevenNumbers (reportAt (o .before) (o .head .clock))
+requestText (R.WriteCc l n) o = 32 ∷ hex (ccOctetsAt (o .before) (o .head .clock))
+requestText (R.WriteCv l n) o = 32 ∷ hex (cvOctetsAt (o .before) (o .head .clock))
+
+unfoldable pub lineFor : ℕ → Request → Outcome → List ℕ
+lineFor number q o = decimal number ++ spaced (o .answer) ++ cond (eqb (o .answer) 0) (requestText q o) [] ++ 10 ∷ []
+
+-- a buffer, and the place behind what was put into it
+pub record Put : Type 0 where
+  pub buffer : List ℕ
+  pub at : ℕ
+
+-- one octet more; at the buffer's end nothing is put
+unfoldable pub pushed : Put → ℕ → Put
+pushed p b = cond (ltb (p .at) (length (p .buffer))) (record { buffer = set (p .buffer) (p .at) b; at = p .at + 1 }) p
+
+unfoldable pub typed : Put → List ℕ → Put
+typed p [] = p
+typed p (b ∷ bs) = typed (pushed p b) bs
