@@ -7,6 +7,7 @@ use fault::IfId;
 ghost use mathlib.Core.Path.{_≡_};
 ghost use Prim.Native.Nat.{_%_};
 ghost use lib.ListN.{length};
+ghost use Rattle.script.specs.Making.{packetBy, ifIdBy, globalIdBy, faultBy};
 
 // The low part of a word, as a number of 8, 16 or 32 bits.
 pub fn small(n: u64) -> u8
@@ -46,7 +47,7 @@ pub fn packet(
     my: u64,
     your: u64,
 ) -> Packet
-    ensures { λ r. ⌜ r .state ≡ state % 256 ⌝ }
+    ensures { λ r. ⌜ r ≡ packetBy state diagnostic flags multiplier my your ⌝ }
 {
     Packet {
         diagnostic: small(diagnostic),
@@ -64,14 +65,18 @@ pub fn packet(
     }
 }
 
-fn if_id(present: u64, node: u64, interface: u64) -> IfId {
+fn if_id(present: u64, node: u64, interface: u64) -> IfId
+    ensures { λ r. ⌜ r ≡ ifIdBy present node interface ⌝ }
+{
     if present == 0 {
         return IfId::Absent;
     }
     IfId::Present(middle(node), middle(interface))
 }
 
-fn global_id(present: u64) -> GlobalId {
+fn global_id(present: u64) -> GlobalId
+    ensures { λ r. ⌜ r ≡ globalIdBy present ⌝ }
+{
     if present < 2 {
         return GlobalId::Absent;
     }
@@ -79,7 +84,7 @@ fn global_id(present: u64) -> GlobalId {
 }
 
 pub fn fault(kind: u64, flags: u64, refresh: u64, present: u64, node: u64, interface: u64) -> Fault
-    ensures { λ r. ⌜ r .kind ≡ kind % 256 ⌝ }
+    ensures { λ r. ⌜ r ≡ faultBy kind flags refresh present node interface ⌝ }
 {
     let interface = if_id(present, node, interface);
     let global = global_id(present);

@@ -1,0 +1,260 @@
+//! Counts of what the made captures contain.
+
+use crate::capture::{Kind, Next, Reader, Record};
+use crate::edges::{self, Edge};
+use crate::make;
+use crate::message::{self, Message};
+use crate::session::{Report, Session};
+use crate::table::{Answer, Table, LARGEST_READING};
+use std::io;
+
+const KINDS: [&str; 9] = [
+    "tick", "open", "close", "lock", "unlock", "receive", "report", "write CC", "write CV",
+];
+const STATES: [&str; 4] = ["ADMIN DOWN", "DOWN", "INIT", "UP"];
+const DEFECTS: [&str; 7] = [
+    "crossing (misconnectivity)",
+    "loss",
+    "alarm",
+    "held back (loss without alarm)",
+    "remote defect",
+    "blocked",
+    "none of these",
+];
+const EDGES: [&str; 3] = ["detection time", "misconnectivity", "condition"];
+const WAYS: [&str; 3] = ["any call", "message on it", "seen on it"];
+const EXTRAS: [&str; 8] = [
+    "accepted CC",
+    "accepted CV",
+    "accepted AIS or LKR",
+    "accepted with padding",
+    "accepted with Length above 24",
+    "written with F",
+    "sessions open at a call: 64",
+    "sessions UP at a call: more than half",
+];
+const ENDS: [&str; 3] = ["whole", "cut", "bad header"];
+
+/// One before, at, one after.
+type Sides = [u64; 3];
+
+#[derive(Default)]
+struct Counts {
+    answers: [[u64; 27]; 9],
+    states: [u64; 4],
+    defects: [u64; 7],
+    conditions: [u64; 5],
+    diagnostics: [u64; 32],
+    edges: [[Sides; 3]; 3],
+    clock: Sides,
+    largest: Sides,
+    extras: [u64; 8],
+    ends: [u64; 3],
+}
+
+/// Prints what the captures of seeds 1 to `count` contain.
+pub fn cover(count: u64, output: &mut impl io::Write) -> io::Result<()> {
+    let mut counts = Counts::default();
+    for seed in 1..=count {
+        counts.add_capture(&make::capture(seed))?;
+    }
+    counts.print(output)
+}
+
+impl Counts {
+    fn add_capture(&mut self, capture: &[u8]) -> io::Result<()> {
+        let Some(mut reader) = Reader::start(capture)? else {
+            self.ends[2] += 1;
+            return Ok(());
+        };
+        let mut table = Table::new();
+        loop {
+            match reader.next_record()? {
+                Next::Record(record) => self.add_record(&mut table, &record),
+                Next::End => {
+                    self.ends[0] += 1;
+                    return Ok(());
+                }
+                Next::Cut => {
+                    self.ends[1] += 1;
+                    return Ok(());
+                }
+            }
+        }
+    }
+
+    fn add_record(&mut self, table: &mut Table, record: &Record) {
+        let before: Vec<Session> = table.sessions().cloned().collect();
+        let clock = table.clock();
+        let answer = table.perform(record);
+        self.answers[record.kind as usize][usize::from(answer.number())] += 1;
+        if record.kind.brings_reading() {
+            side(&mut self.clock, record.time, clock);
+            side(&mut self.largest, record.time, LARGEST_READING);
+        }
+        if answer.is_accepted() {
+            self.add_edges(&before, clock, record);
+            self.add_accepted(&before, record);
+        }
+        match &answer {
+            Answer::Report(report) => self.add_report(report),
+            Answer::Written(written) => self.add_written(written.octets()),
+            Answer::Accepted | Answer::Refused(_) => {}
+        }
+    }
+
+    /// Counts how the reading, or the clock for a report or write, lies to
+    /// the edges of the sessions as they were before the call.
+    fn add_edges(&mut self, before: &[Session], clock: u64, record: &Record) {
+        for session in before {
+            let own = session.settings.label == record.label;
+            for (edge, at) in edges::of(session) {
+                let ways = &mut self.edges[edge_number(edge)];
+                if record.kind.brings_reading() {
+                    side(&mut ways[0], record.time, at);
+                    if own && record.kind == Kind::Receive {
+                        side(&mut ways[1], record.time, at);
+                    }
+                } else if own {
+                    side(&mut ways[2], clock, at);
+                }
+            }
+        }
+    }
+
+    fn add_accepted(&mut self, before: &[Session], record: &Record) {
+        let up = before.iter().filter(|s| s.state == message::State::Up);
+        self.extras[6] += u64::from(before.len() == 64);
+        self.extras[7] += u64::from(2 * up.count() > before.len());
+        if record.kind != Kind::Receive {
+            return;
+        }
+        let body = record.body;
+        let (kind, length) = match message::read(body) {
+            Ok(Message::Cc(_)) => (0, 4 + usize::from(body[7])),
+            Ok(Message::Cv(..)) => (1, 20 + usize::from(body[7])),
+            Ok(Message::Fault(_)) => (2, 9 + usize::from(body[8])),
+            Err(_) => return,
+        };
+        self.extras[kind] += 1;
+        self.extras[3] += u64::from(body.len() > length);
+        self.extras[4] += u64::from(kind < 2 && body[7] > 24);
+    }
+
+    fn add_report(&mut self, report: &Report) {
+        self.states[report.state as usize] += 1;
+        self.conditions[report.conditions] += 1;
+        let suppressed = report.loss && !report.alarm;
+        let quiet = !report.misconnectivity && !report.loss && !report.remote_defect;
+        let seen = [
+            report.misconnectivity,
+            report.loss,
+            report.alarm,
+            suppressed,
+            report.remote_defect,
+            report.blocked,
+            quiet,
+        ];
+        for (count, seen) in self.defects.iter_mut().zip(seen) {
+            *count += u64::from(seen);
+        }
+    }
+
+    fn add_written(&mut self, octets: &[u8]) {
+        self.diagnostics[usize::from(octets[4] & 31)] += 1;
+        self.extras[5] += u64::from(octets[5] & 0x10 != 0);
+    }
+
+    fn print(&self, output: &mut impl io::Write) -> io::Result<()> {
+        self.print_answers(output)?;
+        print_named(output, "reported state", &STATES, &self.states)?;
+        print_named(output, "reported", &DEFECTS, &self.defects)?;
+        let numbers: Vec<String> = (0..5).map(|n| n.to_string()).collect();
+        print_named(output, "conditions reported", &numbers, &self.conditions)?;
+        self.print_diagnostics(output)?;
+        self.print_edges(output)?;
+        print_named(output, "also", &EXTRAS, &self.extras)?;
+        print_named(output, "captures that end", &ENDS, &self.ends)
+    }
+
+    /// Answers in lines, kinds of record in columns, with totals.
+    fn print_answers(&self, output: &mut impl io::Write) -> io::Result<()> {
+        write!(output, "{:>8}", "answer")?;
+        for kind in KINDS {
+            write!(output, "{kind:>9}")?;
+        }
+        writeln!(output, "{:>9}", "all")?;
+        for answer in (0..15).chain([26]) {
+            let row: Vec<u64> = self.answers.iter().map(|kind| kind[answer]).collect();
+            print_row(output, &answer.to_string(), &row)?;
+        }
+        let totals: Vec<u64> = self.answers.iter().map(|k| k.iter().sum()).collect();
+        print_row(output, "all", &totals)
+    }
+
+    fn print_diagnostics(&self, output: &mut impl io::Write) -> io::Result<()> {
+        let named = [0, 1, 3, 5, 7, 9];
+        for number in named {
+            let count = self.diagnostics[number];
+            writeln!(output, "diagnostic written: {number}: {count}")?;
+        }
+        let all: u64 = self.diagnostics.iter().sum();
+        let others = all - named.iter().map(|&n| self.diagnostics[n]).sum::<u64>();
+        writeln!(output, "diagnostic written: others: {others}")
+    }
+
+    fn print_edges(&self, output: &mut impl io::Write) -> io::Result<()> {
+        writeln!(output, "readings beside edges: one before, at, one after")?;
+        for (edge, ways) in EDGES.iter().zip(&self.edges) {
+            for (way, sides) in WAYS.iter().zip(ways) {
+                print_sides(output, &format!("{edge}, {way}"), sides)?;
+            }
+        }
+        print_sides(output, "clock", &self.clock)?;
+        print_sides(output, "largest reading", &self.largest)
+    }
+}
+
+/// Counts a reading that lies at an edge or one beside it.
+fn side(sides: &mut Sides, reading: u64, edge: u64) {
+    if reading.checked_add(1) == Some(edge) {
+        sides[0] += 1;
+    } else if reading == edge {
+        sides[1] += 1;
+    } else if edge.checked_add(1) == Some(reading) {
+        sides[2] += 1;
+    }
+}
+
+fn edge_number(edge: Edge) -> usize {
+    match edge {
+        Edge::Detection => 0,
+        Edge::Misconnectivity => 1,
+        Edge::Condition => 2,
+    }
+}
+
+fn print_row(output: &mut impl io::Write, name: &str, row: &[u64]) -> io::Result<()> {
+    write!(output, "{name:>8}")?;
+    for count in row {
+        write!(output, "{count:>9}")?;
+    }
+    writeln!(output, "{:>9}", row.iter().sum::<u64>())
+}
+
+fn print_named(
+    output: &mut impl io::Write,
+    title: &str,
+    names: &[impl AsRef<str>],
+    counts: &[u64],
+) -> io::Result<()> {
+    for (name, count) in names.iter().zip(counts) {
+        writeln!(output, "{title}: {}: {count}", name.as_ref())?;
+    }
+    Ok(())
+}
+
+fn print_sides(output: &mut impl io::Write, name: &str, sides: &Sides) -> io::Result<()> {
+    let [before, at, after] = sides;
+    writeln!(output, "  {name}: {before}, {at}, {after}")
+}

@@ -1,0 +1,23 @@
+//! An independent second implementation of the rules for watching MPLS-TP
+//! sessions (continuity check, connectivity verification, remote defect,
+//! alarm indication and lock report), written from the rules paper alone.
+//!
+//! It exists to be compared with another implementation: it reads the same
+//! captures and prints the same text.
+
+pub mod capture;
+pub mod check;
+pub mod cover;
+pub mod distinct;
+pub mod edges;
+pub mod load;
+pub mod make;
+pub mod message;
+pub mod octets;
+pub mod random;
+pub mod refusal;
+pub mod session;
+pub mod settings;
+pub mod sound;
+pub mod table;
+pub mod watch;

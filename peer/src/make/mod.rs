@@ -1,0 +1,201 @@
+//! Deterministic captures from a seed: random, but steered towards every
+//! answer, every edge and every kind of damage.
+
+mod damage;
+mod draft;
+mod ending;
+mod readings;
+mod scenarios;
+mod sequences;
+
+use crate::capture::{Kind, Record, HEADER};
+use crate::random::Random;
+use crate::session::Session;
+use crate::table::{Answer, Table, LARGEST_READING};
+
+/// What a capture mostly consists of.
+#[derive(Clone, Copy, PartialEq, Eq)]
+enum Style {
+    /// Everything about equally often.
+    Mixed,
+    /// Sessions come UP and stay UP.
+    Steady,
+    /// Many fault messages.
+    Faults,
+    /// Many damaged messages.
+    Damage,
+    /// Many readings at edges.
+    Edges,
+}
+
+/// A circuit that the capture mostly speaks of.
+#[derive(Clone, Copy)]
+struct Circuit {
+    label: u32,
+    discriminator: u32,
+    remote: u32,
+    mep_kind: u16,
+    own: [u8; 12],
+    expected: [u8; 12],
+}
+
+/// Makes one capture. It keeps a table of its own beside it, so that it knows
+/// where each session stands and can aim at the edges.
+struct Maker {
+    random: Random,
+    table: Table,
+    capture: Vec<u8>,
+    records: u64,
+    style: Style,
+    circuits: Vec<Circuit>,
+    period: u32,
+    /// The clock has been brought near the largest reading.
+    late: bool,
+}
+
+/// The capture for a seed.
+pub fn capture(seed: u64) -> Vec<u8> {
+    let mut maker = Maker::new(seed);
+    if maker.random.chance(3) && !maker.spoil_header() {
+        return maker.capture;
+    }
+    maker.open_at_first();
+    let target = maker.random.between(150, 900);
+    let approaches_largest = maker.random.chance(25);
+    while maker.records < target {
+        if approaches_largest && !maker.late && maker.records > target * 3 / 4 {
+            maker.approach_largest_reading();
+        }
+        maker.next_scenario();
+    }
+    maker.end();
+    maker.capture
+}
+
+impl Maker {
+    fn new(seed: u64) -> Maker {
+        let mut random = Random::new(seed);
+        let styles = [
+            Style::Mixed,
+            Style::Mixed,
+            Style::Steady,
+            Style::Faults,
+            Style::Damage,
+            Style::Edges,
+            Style::Edges,
+        ];
+        let style = random.pick(&styles);
+        let count = random.pick(&[1, 1, 2, 2, 8, 8, 64, 66, 80]);
+        let usual = random.pick(&[1_000, 3_333, 10_000, 100_000, 1_000_000, 1_000_000]);
+        let any = random.between(1_000, 10_000_000) as u32;
+        let period = random.pick(&[usual, usual, usual, 10_000_000, any]);
+        let circuits = (0..count).map(|n| circuit(&mut random, n)).collect();
+        Maker {
+            random,
+            table: Table::new(),
+            capture: HEADER.to_vec(),
+            records: 0,
+            style,
+            circuits,
+            period,
+            late: false,
+        }
+    }
+
+    /// Appends a record and does its call on the maker's own table.
+    fn call(&mut self, kind: Kind, time: u64, label: u32, body: &[u8]) -> Answer {
+        let record = Record {
+            time,
+            label,
+            kind,
+            body,
+        };
+        record.append_to(&mut self.capture);
+        self.records += 1;
+        self.table.perform(&record)
+    }
+
+    /// Opens most circuits; where there are many, nearly all of them.
+    fn open_at_first(&mut self) {
+        let percent = if self.circuits.len() < 64 { 92 } else { 99 };
+        for at in 0..self.circuits.len() {
+            if self.random.chance(percent) {
+                let circuit = self.circuits[at];
+                let body = self.good_open_body(&circuit);
+                let time = self.table.clock() + self.random.below(3);
+                self.call(Kind::Open, time, circuit.label, &body);
+            }
+        }
+    }
+
+    /// Brings the clock near the largest reading.
+    fn approach_largest_reading(&mut self) {
+        let distances = [0, 1, 2, 3_000_000, 3_500_000, 7_000_000, 80_000_000];
+        let nearest = self.random.pick(&distances);
+        let spread = self.random.pick(&[0, 0, 50_000_000]);
+        let distance = nearest + self.random.below(spread + 1);
+        self.late = true;
+        self.call(Kind::Tick, LARGEST_READING - distance, 0, &[]);
+    }
+
+    /// One of the circuits, rather an open one.
+    fn pick_circuit(&mut self) -> Circuit {
+        let circuits = &self.circuits;
+        let first = circuits[self.random.below(circuits.len() as u64) as usize];
+        if self.table.session(first.label).is_some() {
+            return first;
+        }
+        circuits[self.random.below(circuits.len() as u64) as usize]
+    }
+
+    fn session(&self, circuit: &Circuit) -> Option<&Session> {
+        self.table.session(circuit.label)
+    }
+
+    /// A label that mostly is not open.
+    fn odd_label(&mut self) -> u32 {
+        let labels = [0, 1, 15, 16, 17, 1_048_575, 1_048_576, u32::MAX];
+        let free = self.random.between(16, 1_048_575) as u32;
+        let known = self.pick_circuit().label;
+        let odd = self.random.pick(&labels);
+        self.random
+            .pick(&[odd, odd, free, known ^ 1, known | 1 << 24])
+    }
+
+    /// A body that nobody reads: mostly empty, at times of any length.
+    fn unread_body(&mut self) -> Vec<u8> {
+        let length = match self.random.below(40) {
+            0 => self.random.between(0, 2_048),
+            1 => 2_048,
+            2..=4 => self.random.between(1, 40),
+            _ => 0,
+        };
+        self.random.octets(length as usize)
+    }
+}
+
+/// The circuit with a number: its label, discriminators and MEP-IDs.
+fn circuit(random: &mut Random, number: u32) -> Circuit {
+    let label = match number {
+        0 => random.pick(&[16, 100, 1_048_575]),
+        1 => random.pick(&[17, 101, 1_048_574]),
+        _ => 1_000 + number,
+    };
+    let discriminator = match number {
+        0 => random.pick(&[1, 17, u32::MAX]),
+        _ => 0x0100_0000 * random.between(1, 9) as u32 + number,
+    };
+    let mut own = [0; 12];
+    own[..4].copy_from_slice(&random.pick(&[0u32, 1, 0xffff_ffff]).to_be_bytes());
+    own[11] = number as u8;
+    let mut expected = own;
+    expected[4] = 1;
+    Circuit {
+        label,
+        discriminator,
+        remote: random.pick(&[1, 2, 0x8000_0000, u32::MAX, 5_000 + number]),
+        mep_kind: random.below(2) as u16,
+        own,
+        expected,
+    }
+}

@@ -1,0 +1,42 @@
+//! The numbered refusals.
+
+/// Why a call was refused. The discriminant is the number that is printed.
+#[derive(Clone, Copy, Debug, PartialEq, Eq)]
+#[repr(u8)]
+pub enum Refusal {
+    /// The reading is below the clock, or above the largest reading.
+    Reading = 1,
+    /// No open session has this label.
+    NoSession = 2,
+    /// The message is shorter than its layout needs.
+    Short = 3,
+    /// The first nibble is not 1, or the G-ACh version is not 0.
+    ChannelHeader = 4,
+    /// The channel type is none of CC, CV and fault.
+    ChannelType = 5,
+    /// A BFD reception rule is broken.
+    Bfd = 6,
+    /// The MEP-ID has an unknown type or a wrong length.
+    MepId = 7,
+    /// A fault message has a wrong field or TLV.
+    Fault = 8,
+    /// A new condition where four already stand.
+    ConditionsFull = 9,
+    /// A setting is out of range.
+    Setting = 10,
+    /// The label or the local discriminator is already open.
+    AlreadyOpen = 11,
+    /// All 64 places are open.
+    TableFull = 12,
+    /// A BFD message came for a locked session.
+    Locked = 14,
+    /// The table itself breaks its rules.
+    Table = 26,
+}
+
+impl Refusal {
+    /// The number of the refusal.
+    pub fn number(self) -> u8 {
+        self as u8
+    }
+}

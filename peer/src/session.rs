@@ -1,0 +1,355 @@
+//! One session: what it keeps, how it moves and what it says of itself.
+
+use crate::message::{
+    Bfd, Fault, FaultKind, InterfaceId, MepId, Message, State, CHANNEL_CC, CHANNEL_CV,
+};
+use crate::refusal::Refusal;
+use crate::settings::Settings;
+
+/// How long a misconnectivity stands after the last message of another circuit.
+pub const MISCONNECTIVITY_TIME: u64 = 3_500_000;
+/// How long a condition stands for each second of its refresh time.
+pub const CONDITION_TIME_PER_SECOND: u64 = 3_500_000;
+/// The most conditions a session holds.
+pub const CONDITIONS: usize = 4;
+/// The detection multiplier before a CC gives one, and the one written.
+const OWN_MULTIPLIER: u8 = 3;
+
+/// The key of a fault condition. An absent interface is a key of its own.
+#[derive(Clone, Copy, Debug, PartialEq, Eq)]
+pub struct Key {
+    pub kind: FaultKind,
+    pub interface: Option<InterfaceId>,
+}
+
+/// A fault condition as its last message left it.
+#[derive(Clone, Copy, Debug, PartialEq, Eq)]
+pub struct Condition {
+    pub key: Key,
+    pub arrived: u64,
+    pub refresh: u8,
+    pub link_down: bool,
+}
+
+impl Condition {
+    /// The first reading at which the condition no longer stands.
+    pub fn end(&self) -> u64 {
+        self.arrived + CONDITION_TIME_PER_SECOND * u64::from(self.refresh)
+    }
+
+    pub fn stands(&self, now: u64) -> bool {
+        now < self.end()
+    }
+}
+
+/// The seven numbers of a report.
+#[derive(Clone, Copy, Debug, PartialEq, Eq)]
+pub struct Report {
+    pub state: State,
+    pub misconnectivity: bool,
+    pub loss: bool,
+    pub alarm: bool,
+    pub remote_defect: bool,
+    pub blocked: bool,
+    pub conditions: usize,
+}
+
+/// The octets of a written CC (28) or CV (44).
+#[derive(Clone, Copy, Debug, PartialEq, Eq)]
+pub struct Written {
+    octets: [u8; 44],
+    length: usize,
+}
+
+impl Written {
+    pub fn octets(&self) -> &[u8] {
+        &self.octets[..self.length]
+    }
+}
+
+/// An open session.
+#[derive(Clone, Debug, PartialEq, Eq)]
+pub struct Session {
+    pub settings: Settings,
+    /// ADMIN DOWN means locked.
+    pub state: State,
+    /// The session is DOWN because a received state took it there.
+    pub taken_down_by_peer: bool,
+    /// When the running detection time began.
+    pub detecting_since: u64,
+    pub multiplier: u8,
+    pub remote_discriminator: Option<u32>,
+    pub remote_diagnostic: Option<u8>,
+    pub reply_owed: bool,
+    pub last_misconnected: Option<u64>,
+    pub conditions: [Option<Condition>; CONDITIONS],
+}
+
+impl Session {
+    /// A session as it is opened: DOWN, and timed from its opening.
+    pub fn open(settings: Settings, now: u64) -> Session {
+        Session {
+            settings,
+            state: State::Down,
+            taken_down_by_peer: false,
+            detecting_since: now,
+            multiplier: OWN_MULTIPLIER,
+            remote_discriminator: None,
+            remote_diagnostic: None,
+            reply_owed: false,
+            last_misconnected: None,
+            conditions: [None; CONDITIONS],
+        }
+    }
+
+    pub fn is_locked(&self) -> bool {
+        self.state == State::AdminDown
+    }
+
+    /// The last reading without a loss of continuity.
+    pub fn detection_end(&self) -> u64 {
+        self.detecting_since + u64::from(self.settings.period) * u64::from(self.multiplier)
+    }
+
+    /// Loss of continuity: more than the detection time has gone.
+    pub fn has_loss(&self, now: u64) -> bool {
+        !self.is_locked() && now > self.detection_end()
+    }
+
+    /// Misconnectivity: a message of another circuit came a
+    /// short time ago.
+    pub fn has_misconnectivity(&self, now: u64) -> bool {
+        self.last_misconnected
+            .is_some_and(|date| now - date < MISCONNECTIVITY_TIME)
+    }
+
+    /// The conditions that stand.
+    pub fn standing(&self, now: u64) -> impl Iterator<Item = &Condition> {
+        self.conditions
+            .iter()
+            .flatten()
+            .filter(move |condition| condition.stands(now))
+    }
+
+    /// TIMER: a loss of continuity takes the session down.
+    pub fn timer(&mut self, now: u64) {
+        if self.has_loss(now) {
+            self.take_down();
+        }
+    }
+
+    /// Takes INIT or UP to DOWN, for a reason other than a received state.
+    fn take_down(&mut self) {
+        if matches!(self.state, State::Init | State::Up) {
+            self.state = State::Down;
+            self.taken_down_by_peer = false;
+        }
+    }
+
+    /// Locking a locked session does nothing.
+    pub fn lock(&mut self) {
+        self.state = State::AdminDown;
+        self.taken_down_by_peer = false;
+        self.remote_diagnostic = None;
+        self.reply_owed = false;
+    }
+
+    /// Unlocking a session that is not locked does nothing.
+    pub fn unlock(&mut self, now: u64) {
+        if self.is_locked() {
+            self.state = State::Down;
+            self.multiplier = OWN_MULTIPLIER;
+            self.detecting_since = now;
+        }
+    }
+
+    /// Whether the session refuses a well-formed message: BFD while locked
+    /// (14), a new condition where four stand (9).
+    pub fn refuses(&self, message: &Message, now: u64) -> Option<Refusal> {
+        match message {
+            Message::Cc(_) | Message::Cv(..) => self.is_locked().then_some(Refusal::Locked),
+            Message::Fault(fault) => {
+                let known = self.standing(now).any(|c| c.key == key_of(fault));
+                let full = self.standing(now).count() == CONDITIONS;
+                (!fault.clear && !known && full).then_some(Refusal::ConditionsFull)
+            }
+        }
+    }
+
+    /// Takes in a message that is not refused.
+    pub fn take(&mut self, message: &Message, now: u64) {
+        match message {
+            Message::Cc(bfd) if self.is_foreign(bfd) => self.misconnect(now),
+            Message::Cc(bfd) => self.process_cc(bfd, now),
+            Message::Cv(bfd, source) if self.is_foreign(bfd) || self.is_wrong(source) => {
+                self.misconnect(now)
+            }
+            Message::Cv(..) => self.detecting_since = now,
+            Message::Fault(fault) => self.take_fault(fault, now),
+        }
+    }
+
+    /// The packet names another session as its receiver.
+    fn is_foreign(&self, bfd: &Bfd) -> bool {
+        bfd.your_discriminator != 0 && bfd.your_discriminator != self.settings.discriminator
+    }
+
+    /// The packet comes from a maintenance end point that was not expected.
+    fn is_wrong(&self, source: &MepId) -> bool {
+        *source != self.settings.expected
+    }
+
+    /// A message of another circuit is dated and takes UP to DOWN; INIT stays.
+    fn misconnect(&mut self, now: u64) {
+        self.last_misconnected = Some(now);
+        if self.state == State::Up {
+            self.take_down();
+        }
+    }
+
+    fn process_cc(&mut self, bfd: &Bfd, now: u64) {
+        self.detecting_since = now;
+        self.multiplier = bfd.multiplier;
+        self.remote_discriminator = Some(bfd.my_discriminator);
+        self.remote_diagnostic = Some(bfd.diagnostic);
+        self.reply_owed |= bfd.poll;
+        self.process_state(bfd.state);
+    }
+
+    /// The state machine of figure 7 for a received state.
+    fn process_state(&mut self, received: State) {
+        use State::{AdminDown, Down, Init, Up};
+        let next = match (self.state, received) {
+            (Down, Down) => Init,
+            (Down, Init) => Up,
+            (Down, Up | AdminDown) => Down,
+            (Init, Down) => Init,
+            (Init, Init | Up) => Up,
+            (Init, AdminDown) => Down,
+            (Up, Init | Up) => Up,
+            (Up, Down | AdminDown) => Down,
+            (AdminDown, _) => AdminDown,
+        };
+        if next != Down {
+            self.taken_down_by_peer = false;
+        } else if self.state != Down {
+            self.taken_down_by_peer = true;
+        }
+        self.state = next;
+    }
+
+    fn take_fault(&mut self, fault: &Fault, now: u64) {
+        let key = key_of(fault);
+        self.forget_lapsed_and(key, now);
+        if fault.clear {
+            return;
+        }
+        let condition = Condition {
+            key,
+            arrived: now,
+            refresh: fault.refresh,
+            link_down: fault.link_down,
+        };
+        if let Some(free) = self.conditions.iter_mut().find(|c| c.is_none()) {
+            *free = Some(condition);
+        }
+        if !self.is_locked() && self.follows(&condition) {
+            self.take_down();
+        }
+    }
+
+    /// Gives back the places of lapsed conditions and of the given key.
+    fn forget_lapsed_and(&mut self, key: Key, now: u64) {
+        for place in &mut self.conditions {
+            if place.is_some_and(|c| c.key == key || !c.stands(now)) {
+                *place = None;
+            }
+        }
+    }
+
+    /// Whether the session follows the condition: link-down or lock.
+    fn follows(&self, condition: &Condition) -> bool {
+        match condition.key.kind {
+            FaultKind::AlarmIndication => self.settings.follows_link_down && condition.link_down,
+            FaultKind::LockReport => self.settings.follows_lock,
+        }
+    }
+
+    /// What the session reports at the clock.
+    pub fn report(&self, now: u64) -> Report {
+        let misconnectivity = self.has_misconnectivity(now);
+        let loss = self.has_loss(now);
+        let conditions = self.standing(now).count();
+        let defect_told = matches!(self.remote_diagnostic, Some(1 | 5 | 9));
+        Report {
+            state: self.state,
+            misconnectivity,
+            loss,
+            alarm: loss && conditions == 0,
+            remote_defect: !self.is_locked() && !loss && defect_told,
+            blocked: misconnectivity,
+            conditions,
+        }
+    }
+
+    /// The diagnostic that a written message carries.
+    fn diagnostic(&self, now: u64) -> u8 {
+        if self.is_locked() {
+            7
+        } else if self.has_misconnectivity(now) {
+            9
+        } else if self.standing(now).any(|c| self.follows(c)) {
+            5
+        } else if self.has_loss(now) {
+            1
+        } else if self.taken_down_by_peer {
+            3
+        } else {
+            0
+        }
+    }
+
+    /// Writes a CC. A reply owed is given with it.
+    pub fn write_cc(&mut self, now: u64) -> Written {
+        let mut octets = [0; 44];
+        self.write_bfd(&mut octets, CHANNEL_CC, now);
+        if self.reply_owed {
+            octets[5] |= 0x10;
+            self.reply_owed = false;
+        }
+        Written { octets, length: 28 }
+    }
+
+    /// Writes a CV. It never carries a reply.
+    pub fn write_cv(&self, now: u64) -> Written {
+        let mut octets = [0; 44];
+        self.write_bfd(&mut octets, CHANNEL_CV, now);
+        octets[28..30].copy_from_slice(&self.settings.own.kind.to_be_bytes());
+        octets[30..32].copy_from_slice(&12u16.to_be_bytes());
+        octets[32..44].copy_from_slice(&self.settings.own.value);
+        Written { octets, length: 44 }
+    }
+
+    /// Channel header and BFD packet, all flags clear.
+    fn write_bfd(&self, octets: &mut [u8; 44], channel: u16, now: u64) {
+        let period = self.settings.period.to_be_bytes();
+        let remote = self.remote_discriminator.unwrap_or(0);
+        octets[0] = 0x10;
+        octets[2..4].copy_from_slice(&channel.to_be_bytes());
+        octets[4] = 1 << 5 | self.diagnostic(now);
+        octets[5] = (self.state as u8) << 6;
+        octets[6] = OWN_MULTIPLIER;
+        octets[7] = 24;
+        octets[8..12].copy_from_slice(&self.settings.discriminator.to_be_bytes());
+        octets[12..16].copy_from_slice(&remote.to_be_bytes());
+        octets[16..20].copy_from_slice(&period);
+        octets[20..24].copy_from_slice(&period);
+    }
+}
+
+fn key_of(fault: &Fault) -> Key {
+    Key {
+        kind: fault.kind,
+        interface: fault.interface,
+    }
+}

@@ -1,0 +1,57 @@
+//! The settings that open a session.
+
+use crate::message::MepId;
+use crate::octets::{array, be16, be32};
+
+pub const LOWEST_LABEL: u32 = 16;
+pub const HIGHEST_LABEL: u32 = 1_048_575;
+pub const SHORTEST_PERIOD: u32 = 1_000;
+pub const LONGEST_PERIOD: u32 = 10_000_000;
+/// Length of the body of an open record.
+pub const OPEN_BODY: usize = 35;
+
+/// What a session is opened with.
+#[derive(Clone, Copy, Debug, PartialEq, Eq)]
+pub struct Settings {
+    pub label: u32,
+    pub discriminator: u32,
+    pub period: u32,
+    pub own: MepId,
+    pub expected: MepId,
+    pub follows_link_down: bool,
+    pub follows_lock: bool,
+}
+
+impl Settings {
+    /// Reads the body of an open record; nothing if its length, its marks or
+    /// a setting is out of range.
+    pub fn read(label: u32, body: &[u8]) -> Option<Settings> {
+        if body.len() != OPEN_BODY || body[34] > 3 {
+            return None;
+        }
+        let kind = be16(body, 8);
+        let mep_id = |at| MepId {
+            kind,
+            value: array(body, at),
+        };
+        let settings = Settings {
+            label,
+            discriminator: be32(body, 0),
+            period: be32(body, 4),
+            own: mep_id(10),
+            expected: mep_id(22),
+            follows_link_down: body[34] & 1 != 0,
+            follows_lock: body[34] & 2 != 0,
+        };
+        settings.in_range().then_some(settings)
+    }
+
+    /// Whether every setting is in its range.
+    pub fn in_range(&self) -> bool {
+        (LOWEST_LABEL..=HIGHEST_LABEL).contains(&self.label)
+            && self.discriminator != 0
+            && (SHORTEST_PERIOD..=LONGEST_PERIOD).contains(&self.period)
+            && self.own.kind <= 1
+            && self.expected.kind <= 1
+    }
+}

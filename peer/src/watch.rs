@@ -1,0 +1,71 @@
+//! The program `watch`: answers to a capture, one line for each record.
+
+use crate::capture::{Next, Reader};
+use crate::session::Report;
+use crate::table::{Answer, Table};
+use std::io::{self, Read, Write};
+
+/// Reads a capture and prints the answers, to the end or to the first record
+/// that cannot be read.
+pub fn watch(input: impl Read, output: &mut impl Write) -> io::Result<()> {
+    let Some(mut reader) = Reader::start(input)? else {
+        return writeln!(output, "bad header");
+    };
+    let mut table = Table::new();
+    let mut number: u64 = 0;
+    loop {
+        match reader.next_record()? {
+            Next::End => return Ok(()),
+            Next::Cut => return writeln!(output, "cut"),
+            Next::Record(record) => {
+                number += 1;
+                print(output, number, &table.perform(&record))?;
+            }
+        }
+    }
+}
+
+fn print(output: &mut impl Write, number: u64, answer: &Answer) -> io::Result<()> {
+    write!(output, "{number} {}", answer.number())?;
+    match answer {
+        Answer::Report(report) => print_report(output, report)?,
+        Answer::Written(written) => print_hex(output, written.octets())?,
+        Answer::Accepted | Answer::Refused(_) => {}
+    }
+    output.write_all(b"\n")
+}
+
+fn print_report(output: &mut impl Write, report: &Report) -> io::Result<()> {
+    write!(
+        output,
+        " {} {} {} {} {} {} {}",
+        report.state as u8,
+        u8::from(report.misconnectivity),
+        u8::from(report.loss),
+        u8::from(report.alarm),
+        u8::from(report.remote_defect),
+        u8::from(report.blocked),
+        report.conditions
+    )
+}
+
+/// One space, then all octets in lower-case hexadecimal.
+fn print_hex(output: &mut impl Write, octets: &[u8]) -> io::Result<()> {
+    const DIGITS: &[u8; 16] = b"0123456789abcdef";
+    let mut text = Vec::with_capacity(1 + 2 * octets.len());
+    text.push(b' ');
+    for octet in octets {
+        text.push(DIGITS[usize::from(octet >> 4)]);
+        text.push(DIGITS[usize::from(octet & 15)]);
+    }
+    output.write_all(&text)
+}
+
+/// The text for a whole capture in memory.
+pub fn text(capture: &[u8]) -> Vec<u8> {
+    let mut output = Vec::new();
+    // Neither reading from nor writing to memory can fail.
+    let done = watch(capture, &mut output);
+    debug_assert!(done.is_ok());
+    output
+}
