@@ -1,8 +1,10 @@
 -- The messages that the numbers of a script's line make; a number too large for its field counts by its low part.
 -- Assumes nothing.
-use Prim.Native.Nat.{ℕ, _/_, _%_}
+use Prim.Native.Nat.{ℕ, zero, suc, _+_, _/_, _%_}
 use mathlib.Core.Bool.{false, cond}
+use mathlib.Core.List.{List}
 use lib.Dec.{eqb, ltb}
+use lib.ListN.{getD, set, replicate}
 use Rattle.bfd.specs.declared.Packet.{Packet}
 use Rattle.fault.specs.declared.Fault.{Fault}
 use Rattle.fault.specs.declared.IfId.{IfId}
@@ -47,3 +49,15 @@ faultBy kind flags refresh present node interface =
       interface = ifIdBy present node interface;
       global = globalIdBy present;
     }
+
+-- an octet of a word of four, the highest first
+abbrev pub octetBy : ℕ → ℕ → ℕ
+octetBy word place =
+    cond (eqb place 0) (word / 16777216 % 256)
+    (cond (eqb place 1) (word / 65536 % 256)
+    (cond (eqb place 2) (word / 256 % 256) (word % 256)))
+
+-- the first n octets of a literal message, four to a word from the fourth word on; 0 behind them
+unfoldable pub literalBy : List ℕ → ℕ → List ℕ
+literalBy w zero = replicate 44 0
+literalBy w (suc n) = set (literalBy w n) n (octetBy (getD w (4 + n / 4) 0) (n % 4))

@@ -6,8 +6,7 @@ use fault::GlobalId;
 use fault::IfId;
 ghost use mathlib.Core.Path.{_≡_};
 ghost use Prim.Native.Nat.{_%_};
-ghost use lib.ListN.{length};
-ghost use Rattle.script.specs.Making.{packetBy, ifIdBy, globalIdBy, faultBy};
+ghost use Rattle.script.specs.Making.{packetBy, ifIdBy, globalIdBy, faultBy, octetBy, literalBy};
 
 // The low part of a word, as a number of 8, 16 or 32 bits.
 pub fn small(n: u64) -> u8
@@ -98,7 +97,9 @@ pub fn fault(kind: u64, flags: u64, refresh: u64, present: u64, node: u64, inter
     }
 }
 
-fn octet(word: u64, place: usize) -> u8 {
+fn octet(word: u64, place: usize) -> u8
+    ensures { λ r. ⌜ r ≡ octetBy word place ⌝ }
+{
     if place == 0 {
         return small(word / 16_777_216);
     }
@@ -113,7 +114,7 @@ fn octet(word: u64, place: usize) -> u8 {
 
 // The octets of a literal message, four to a word from the fourth on.
 pub fn literal(w: [u64; 16]) -> [u8; 44]
-    ensures { λ r. ⌜ length r ≡ 44 ⌝ }
+    ensures { λ r. ⌜ r ≡ literalBy w 44 ⌝ }
 {
     let mut b = [0u8; 44];
     for i in 0..44 {
