@@ -1,0 +1,4 @@
+pub mod Sizes
+pub mod Turns
+pub mod FedPlain
+pub mod FeedingPlain
