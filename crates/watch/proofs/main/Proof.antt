@@ -1,0 +1,44 @@
+-- `watch::main` is safe and ends: the measure is the number of turns that are left, from one that no run uses up; the buffers keep their lengths.
+-- Assumes nothing.
+use mathlib.Core.Path.{_≡_}
+use lib.ListN.{length}
+use borrow.Author.Needs.{needs}
+use Rattle.watch.proofs.main.Statement.{statement}
+use Rattle.watch.proofs.main.Tie as tie
+
+abbrev Inv-loop : tie.InvT-loop
+Inv-loop buf₀ out₀ w₀ turns₀ buf out w turns = (65536 ≡ length buf) × (65536 ≡ length out)
+
+abbrev μ-loop : tie.MeasureT-loop
+μ-loop buf₀ out₀ w₀ turns₀ buf out w turns = turns
+
+loop-holds : tie.Need-loop-holds Inv-loop μ-loop
+loop-holds c = search needs
+
+slice-aggregate-pump : tie.Need-slice-aggregate-pump Inv-loop μ-loop
+slice-aggregate-pump c = search needs
+
+slice-aggregate-pump-2 : tie.Need-slice-aggregate-pump-2 Inv-loop μ-loop
+slice-aggregate-pump-2 c = search needs
+
+loop-again : tie.Need-loop-again Inv-loop μ-loop
+loop-again c = search needs
+
+pub main-spec : {M : Type 1} → statement M
+main-spec =
+    tie.close
+    (tie.spec
+    Inv-loop
+    μ-loop
+    (λ c κs. tt)
+    (λ c κs. tt)
+    (λ c κs. tt)
+    loop-holds
+    slice-aggregate-pump
+    slice-aggregate-pump-2
+    (λ c κs. tt)
+    (λ c. search needs)
+    (λ c. search needs)
+    loop-again
+    (λ c. tt)
+    (λ c. tt))
