@@ -1,2 +1,3 @@
 pub mod Fading
 pub mod Taken
+pub mod Empties

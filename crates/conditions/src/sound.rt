@@ -1,10 +1,13 @@
 // Refusal 26 for the four places: early returns over numbers, nothing asked of an empty place, keys
-// compared only where two places are filled, ages last.
+// compared only where two places are filled, ages last. This is asked of every open session on every
+// call, and most of them hold no condition or one: those two cases are tested first, on the types
+// alone, so that nothing else is loaded.
 use crate::Condition;
 use crate::Conditions;
 use crate::standing::is_fresh;
 ghost use mathlib.Core.Path.{_≡_};
 ghost use mathlib.Core.Bool.{not, _&&_};
+ghost use lib.Dec.{eqb};
 ghost use Rattle.conditions.specs.Soundness.{fieldsSound, placeSound, placesSound, clash, noClash, conditionsSound};
 
 fn fields_sound(kind: u8, present: u8, link: u8, refresh: u8, at: u64, clock: u64) -> bool
@@ -37,13 +40,11 @@ fn place_sound(c: Condition, clock: u64) -> bool
     fields_sound(c.key.kind, c.key.present, c.link, c.refresh, c.at, clock)
 }
 
+// Where the first place is filled and the keys are alike, the second is filled too.
 fn do_clash(a: Condition, b: Condition, clock: u64) -> bool
     ensures { λ r. ⌜ r ≡ clash a b clock ⌝ }
 {
     if a.key.kind == 0 {
-        return false;
-    }
-    if b.key.kind == 0 {
         return false;
     }
     let one = a.key;
@@ -60,6 +61,9 @@ fn do_clash(a: Condition, b: Condition, clock: u64) -> bool
 fn apart(a: Condition, b: Condition, c: Condition, d: Condition, clock: u64) -> bool
     ensures { λ r. ⌜ r ≡ (not (clash a b clock) && not (clash a c clock) && not (clash a d clock)) ⌝ }
 {
+    if a.key.kind == 0 {
+        return true;
+    }
     if do_clash(a, b, clock) {
         return false;
     }
@@ -107,12 +111,51 @@ fn places_sound(cs: Conditions, clock: u64) -> bool
     false
 }
 
-// The clauses of 26 for the four places.
-pub fn conditions_sound(cs: Conditions, clock: u64) -> bool
+fn three_empty(second: u8, third: u8, fourth: u8) -> bool
+    ensures { λ r. ⌜ r ≡ (eqb second 0 && eqb third 0 && eqb fourth 0) ⌝ }
+{
+    if second != 0 {
+        return false;
+    }
+    if third != 0 {
+        return false;
+    }
+    fourth == 0
+}
+
+fn four_empty(first: u8, second: u8, third: u8, fourth: u8) -> bool
+    ensures { λ r. ⌜ r ≡ (eqb first 0 && eqb second 0 && eqb third 0 && eqb fourth 0) ⌝ }
+{
+    if first != 0 {
+        return false;
+    }
+    three_empty(second, third, fourth)
+}
+
+fn several_sound(cs: Conditions, clock: u64) -> bool
     ensures { λ r. ⌜ r ≡ conditionsSound cs clock ⌝ }
 {
     if places_sound(cs, clock) {
         return none_clash(cs, clock);
     }
     false
+}
+
+// The clauses of 26 for the four places.
+pub fn conditions_sound(cs: Conditions, clock: u64) -> bool
+    ensures { λ r. ⌜ r ≡ conditionsSound cs clock ⌝ }
+{
+    if four_empty(
+        cs.first.key.kind,
+        cs.second.key.kind,
+        cs.third.key.kind,
+        cs.fourth.key.kind,
+    ) {
+        return true;
+    }
+    if three_empty(cs.second.key.kind, cs.third.key.kind, cs.fourth.key.kind) {
+        let only = cs.first;
+        return place_sound(only, clock);
+    }
+    several_sound(cs, clock)
 }

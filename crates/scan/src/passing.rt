@@ -149,14 +149,16 @@ fn note(pairs: &mut [u64], occupied: bool, at: usize, pair: u64)
     }
 }
 
-// One record is taken in. It is looked at only where its place is occupied.
+// One record is taken in. It is looked at only where its place is occupied. The pair is noted last:
+// behind a store the record would be loaded whole.
 pub fn take_in(pairs: &mut [u64], s: Progress, at: usize, r: Session) -> Progress
     ensures { λ n. ⌜ (n ≡ takenIn s at r) × (now (pairs .exit) ≡ noted (now (pairs .entry)) s r) ⌝ }
 {
     let occupied = s.rest % 2 == 1;
     let pair = key_pair(r.settings.label, r.settings.discriminator);
+    let next = progress_by(occupied, s, at, r);
     note(pairs, occupied, s.count, pair);
-    progress_by(occupied, s, at, r)
+    next
 }
 
 fn apart_by(pairs: &[u64], count: usize, sound: bool) -> bool

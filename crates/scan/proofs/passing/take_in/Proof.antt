@@ -14,4 +14,4 @@ take-in-spec =
     (λ c κs. search needs)
     (λ c κs. search needs)
     (λ c. search needs)
-    (λ c. (rw (c .progress-by .ensures), rw (c .before .before .before .note .ensures, c .before .before .before .before .before .key-pair .ensures))))
+    (λ c. (rw (c .before .before .before .before .progress-by .ensures), rw (c .before .before .note .ensures, c .before .before .before .before .before .key-pair .ensures))))

@@ -1,0 +1,73 @@
+-- What 26 asks of the four places where all but the first are empty, and of a place whose key is that of a filled one.
+-- Assumes nothing.
+use Prim.Native.Nat.{ℕ}
+use mathlib.Core.Path.{_≡_, refl, ap, sym, _∙_}
+use mathlib.Core.Bool.{Bool, true, false, not, _&&_}
+use lib.Dec.{eqb}
+use borrow.Author.Tests.{eqb-true}
+use Rattle.rules.specs.declared.Key.{Key}
+use Rattle.rules.specs.Conditions.{sameKey}
+use Rattle.rules.proofs.Bools.{split, no-way}
+use Rattle.conditions.specs.declared.Condition.{Condition}
+use Rattle.conditions.specs.declared.Conditions.{Conditions}
+use Rattle.conditions.specs.Standing.{filled, fresh}
+use Rattle.conditions.specs.Soundness.{placeSound, placesSound, clash, noClash, conditionsSound}
+
+-- nothing clashes with an empty place
+pub first-empty : (a b : Condition) (clock : ℕ) → eqb (a .key .kind) 0 ≡ true → clash a b clock ≡ false
+unfolding clash
+first-empty a b clock e = rw e
+
+second-empty : (a b : Condition) (clock : ℕ) → eqb (b .key .kind) 0 ≡ true → clash a b clock ≡ false
+unfolding clash
+second-empty a b clock e = split (filled a) (λ f. rw (f, e)) (λ f. rw f)
+
+pub empty-apart : (a b c d : Condition) (clock : ℕ) → eqb (a .key .kind) 0 ≡ true
+    → (not (clash a b clock) && not (clash a c clock) && not (clash a d clock)) ≡ true
+empty-apart a b c d clock e = rw (first-empty a b clock e, first-empty a c clock e, first-empty a d clock e)
+
+pub empty-sound : (c : Condition) (clock : ℕ) → eqb (c .key .kind) 0 ≡ true → placeSound c clock ≡ true
+unfolding placeSound
+empty-sound c clock e = rw e
+
+three-apart : (a b c : Bool) → (a && b && c) ≡ true → (a ≡ true) × ((b ≡ true) × (c ≡ true))
+three-apart true true true e = (refl, (refl, refl))
+three-apart true true false e = no-way e refl
+three-apart true false c e = no-way e refl
+three-apart false b c e = no-way e refl
+
+-- the first place alone
+pub first-alone : (cs : Conditions) (clock : ℕ) → (eqb (cs .second .key .kind) 0 && eqb (cs .third .key .kind) 0 && eqb (cs .fourth .key .kind) 0) ≡ true
+    → conditionsSound cs clock ≡ placeSound (cs .first) clock
+unfolding conditionsSound placesSound noClash
+first-alone cs clock e =
+    let p = three-apart (eqb (cs .second .key .kind) 0) (eqb (cs .third .key .kind) 0) (eqb (cs .fourth .key .kind) 0) e in
+    let x = p .0 in
+    let y = p .1 .0 in
+    let z = p .1 .1 in
+    split (placeSound (cs .first) clock)
+    (λ s. rw (s, empty-sound (cs .second) clock x, empty-sound (cs .third) clock y, empty-sound (cs .fourth) clock z, second-empty (cs .first) (cs .second) clock x, second-empty (cs .first) (cs .third) clock y, second-empty (cs .first) (cs .fourth) clock z, first-empty (cs .second) (cs .third) clock x, first-empty (cs .second) (cs .fourth) clock x, first-empty (cs .third) (cs .fourth) clock y))
+    (λ s. rw s)
+
+pub none-filled : (cs : Conditions) (clock : ℕ)
+    → (eqb (cs .first .key .kind) 0 && eqb (cs .second .key .kind) 0 && eqb (cs .third .key .kind) 0 && eqb (cs .fourth .key .kind) 0) ≡ true
+    → conditionsSound cs clock ≡ true
+none-filled cs clock e =
+    split (eqb (cs .first .key .kind) 0) (λ f. first-alone cs clock (rw f at e) ∙ empty-sound (cs .first) clock f) (λ f. no-way e (rw f))
+
+-- keys alike are of one type
+alike-filled : (a b : Condition) → sameKey (a .key) (b .key) ≡ true → filled b ≡ filled a
+unfolding sameKey
+alike-filled a b e =
+    split (eqb (a .key .kind) (b .key .kind)) (λ k. ap (λ (n : ℕ). not (eqb n 0)) (sym (eqb-true (a .key .kind) (b .key .kind) k)))
+    (λ k. no-way e (rw k))
+
+-- so where the first place is filled, a clash is a matter of keys and ages
+pub alike-clash : (a b : Condition) (clock : ℕ) → eqb (a .key .kind) 0 ≡ false → sameKey (a .key) (b .key) ≡ true
+    → clash a b clock ≡ (fresh a clock && fresh b clock)
+unfolding clash
+alike-clash a b clock f e = let g : filled b ≡ true = alike-filled a b e ∙ rw f in rw (g, f, e)
+
+pub unlike-clash : (a b : Condition) (clock : ℕ) → sameKey (a .key) (b .key) ≡ false → clash a b clock ≡ false
+unfolding clash
+unlike-clash a b clock e = split (filled a) (λ f. split (filled b) (λ g. rw (f, g, e)) (λ g. rw (f, g))) (λ f. rw f)
