@@ -7,12 +7,12 @@ use mathlib.Core.Logic.{⊎-elim}
 use Prim.Native.Nat.{ℕ, zero, suc, _+_, _%_, _≤_, _<_, min}
 use native.Mathlib.Omega.{arith}
 use native.Mathlib.Numerals.{add-one}
-use lib.ListN.{length, getD, set, take, drop, take-append-drop}
+use lib.ListN.{length, length-set, getD, set, take, drop, take-append-drop}
 use lib.Seq.{take-suc, take-all, take-take, getD-set-same, getD-set-other}
 use lib.Dec.{eqb, leb}
 use borrow.Author.Tests.{eqb-true, eqb-false, eq-eqb, ne-eqb, leb-true, leb-false}
 use Rattle.rules.specs.Lists.{any, once}
-use Rattle.rules.proofs.Bools.{split, or-cases, or-left, refuted, true-false}
+use Rattle.rules.proofs.Bools.{split, no-way, or-cases, or-left, refuted, true-false}
 use Rattle.rules.proofs.Lists.{Inserted, any-inserted, once-inserted, once-head, once-rest, once-cons, numbers-alike}
 use Rattle.scan.specs.Distinct.{keyIn, keys, distinctIn}
 
@@ -98,13 +98,16 @@ module _ (labels : Bool) (pairs : List ℕ) where
   unfolding once
   once-none = refl
 
+under-two : (labels : Bool) (pairs : List ℕ) (n : ℕ) → n < 2 → once eqb (keys labels n pairs) ≡ true
+unfolding once any
+under-two labels pairs zero h = refl
+under-two labels [] (suc zero) h = refl
+under-two labels (p ∷ ps) (suc zero) h = refl
+under-two labels pairs (suc (suc n)) h = absurd (omega arith)
+
 -- fewer than two are apart
-pub few : (labels : Bool) (pairs : List ℕ) (count : ℕ) → count < 2 → distinctIn labels count pairs ≡ true
-unfolding distinctIn once any
-few labels pairs zero h = refl
-few labels [] (suc zero) h = refl
-few labels (p ∷ ps) (suc zero) h = refl
-few labels pairs (suc (suc n)) h = absurd (omega arith)
+pub few : (labels : Bool) (pairs : List ℕ) (count : ℕ) → min count (length pairs) < 2 → distinctIn labels count pairs ≡ true
+few labels pairs count h = distinct-all labels pairs count (under-two labels pairs (min count (length pairs)) h)
 
 -- the marks of all keys so far are there
 abbrev pub Marked : Bool → List ℕ → ℕ → List Bool → Type 0
@@ -131,3 +134,36 @@ module _ (labels : Bool) (pairs : List ℕ) where
       (λ q. ap (λ (y : ℕ). getD (set marks at true) (y % 1024) false) (eqb-true x (keyIn labels (getD pairs i 0)) q) ∙ getD-set-same marks at true false k)
       (λ q. set-stays marks at (x % 1024) k (m x q))
       (or-cases (eqb x (keyIn labels (getD pairs i 0))) (any (eqb x) (keys labels i pairs)) (sym (any-more labels pairs (eqb x) i h) ∙ e))
+
+-- i pairs were seen: their keys are apart, and the marks of those are set
+pub record Seen (labels : Bool) (pairs : List ℕ) (i : ℕ) (marks : List Bool) : Type 0 where
+  pub size : length marks ≡ 1024
+  pub apart : once eqb (keys labels i pairs) ≡ true
+  pub marked : Marked labels pairs i marks
+
+module _ (labels : Bool) (pairs : List ℕ) where
+  none-seen : (marks : List Bool) → length marks ≡ 1024 → Seen labels pairs 0 marks
+  none-seen marks n = record { size = n; apart = once-none labels pairs; marked = λ x z. no-way z (any-none labels pairs (eqb x)) }
+
+  -- a key without its mark is a new one
+  pub seen-new : (i : ℕ) (marks : List Bool) → Seen labels pairs i marks
+      → (x : ℕ) → getD marks (x % 1024) false ≡ false → any (eqb x) (keys labels i pairs) ≡ false
+  seen-new i marks s x f = unmarked labels pairs i marks (s .marked) x f
+
+  -- one pair more, whose key is new
+  pub seen-more : (i : ℕ) (marks : List Bool) → i < length pairs → Seen labels pairs i marks
+      → any (eqb (keyIn labels (getD pairs i 0))) (keys labels i pairs) ≡ false
+      → Seen labels pairs (i + 1) (set marks (keyIn labels (getD pairs i 0) % 1024) true)
+  seen-more i marks h s new =
+      record {
+        size = simp length-set (s .size);
+        apart = still-once labels pairs i h new (s .apart);
+        marked = marked-more labels pairs i marks h (s .size) (s .marked);
+      }
+
+  pub seen-first : (marks : List Bool) → length marks ≡ 1024 → 0 < length pairs
+      → Seen labels pairs 1 (set marks (keyIn labels (getD pairs 0 0) % 1024) true)
+  seen-first marks n h = seen-more 0 marks h (none-seen marks n) (any-none labels pairs (eqb (keyIn labels (getD pairs 0 0))))
+
+  pub seen-all : (count : ℕ) (marks : List Bool) → Seen labels pairs (min count (length pairs)) marks → distinctIn labels count pairs ≡ true
+  seen-all count marks s = distinct-all labels pairs count (s .apart)

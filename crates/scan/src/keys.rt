@@ -1,9 +1,9 @@
 // No two labels and no two discriminators alike, with marks: only a key whose mark is there is
 // compared with those before it.
 ghost use mathlib.Core.Path.{_≡_};
-ghost use Prim.Native.Nat.{min};
+ghost use Prim.Native.Nat.{min, _%_};
 ghost use lib.ListN.{length};
-ghost use mathlib.Core.Bool.{Bool};
+ghost use mathlib.Core.Bool.{Bool, true, false, _&&_};
 ghost use lib.Dec.{eqb};
 ghost use Rattle.rules.specs.Lists.{any};
 ghost use Rattle.scan.specs.Distinct.{keyPair, keyIn, keys, distinctIn};
@@ -21,6 +21,13 @@ fn key_in(labels: bool, pair: u64) -> u64
         return pair % 1_048_576;
     }
     pair / 1_048_576
+}
+
+// Where a pair's key has its mark.
+fn mark_of(labels: bool, pair: u64) -> usize
+    ensures { λ r. ⌜ r ≡ keyIn labels pair % 1024 ⌝ }
+{
+    (key_in(labels, pair) % 1024) as usize
 }
 
 fn least(a: usize, b: usize) -> usize
@@ -45,24 +52,37 @@ fn among(pairs: &[u64], count: usize, labels: bool, key: u64) -> bool
     found
 }
 
-pub fn distinct(pairs: &[u64], count: usize, labels: bool) -> bool
-    ensures { λ r. ⌜ r ≡ distinctIn labels count (now (pairs .entry)) ⌝ }
+// No two labels alike, and no two discriminators: one pass, with a mark for each key modulo 1,024.
+// The first pair has nothing before it; its marks are set ahead of the pass.
+pub fn distinct(pairs: &[u64], count: usize) -> bool
+    ensures { λ r. ⌜ r ≡ (distinctIn true count (now (pairs .entry)) && distinctIn false count (now (pairs .entry))) ⌝ }
 {
-    if count < 2 {
+    let n = least(count, pairs.len());
+    if n < 2 {
         return true;
     }
-    let n = least(count, pairs.len());
-    let mut marks = [false; 1024];
-    let mut i: usize = 0;
+    let mut labels = [false; 1024];
+    let mut others = [false; 1024];
+    let first = pairs[0];
+    labels[mark_of(true, first)] = true;
+    others[mark_of(false, first)] = true;
+    let mut i: usize = 1;
     while i < n {
-        let key = key_in(labels, pairs[i]);
-        let at = (key % 1024) as usize;
-        if marks[at] {
-            if among(pairs, i, labels, key) {
+        let pair = pairs[i];
+        let x = mark_of(true, pair);
+        let y = mark_of(false, pair);
+        if labels[x] {
+            if among(pairs, i, true, key_in(true, pair)) {
                 return false;
             }
         }
-        marks[at] = true;
+        if others[y] {
+            if among(pairs, i, false, key_in(false, pair)) {
+                return false;
+            }
+        }
+        labels[x] = true;
+        others[y] = true;
         i += 1;
     }
     true

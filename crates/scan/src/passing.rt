@@ -165,9 +165,7 @@ fn apart_by(pairs: &[u64], count: usize, sound: bool) -> bool
     ensures { λ r. ⌜ r ≡ apart (now (pairs .entry)) count sound ⌝ }
 {
     if sound {
-        if distinct(pairs, count, true) {
-            return distinct(pairs, count, false);
-        }
+        return distinct(pairs, count);
     }
     false
 }

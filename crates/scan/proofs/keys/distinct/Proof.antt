@@ -1,67 +1,116 @@
 -- `scan::keys::distinct` meets its contract.
 -- Assumes nothing.
 use Prim.Native.Nat.{ℕ, _≤_, _<_, _-_, min}
-use mathlib.Core.Path.{_≡_, refl, sym, ap, _∙_}
+use mathlib.Core.Path.{_≡_, refl, sym, ap, subst, _∙_}
 use mathlib.Core.Bool.{true, false}
 use mathlib.Core.Logic.{⊎-elim}
 use borrow.Author.Needs.{needs}
 use native.Mathlib.Omega.{arith}
-use lib.ListN.{length, length-set}
+use lib.ListN.{length, getD, replicate}
 use lib.Dec.{eqb}
-use Rattle.rules.specs.Lists.{any, once}
-use Rattle.rules.proofs.Bools.{no-way}
-use Rattle.scan.specs.Distinct.{keys}
-use Rattle.scan.proofs.KeyMarks.{Marked, few, twice, still-once, distinct-all, once-none, any-none, unmarked, marked-more}
+use Rattle.rules.specs.Lists.{any}
+use Rattle.rules.proofs.Bools.{split}
+use Rattle.scan.specs.Distinct.{keyIn, keys, distinctIn}
+use Rattle.scan.proofs.KeyMarks.{Seen, few, twice, seen-first, seen-new, seen-more, seen-all}
 use Rattle.scan.proofs.keys.distinct.Statement.{statement}
 use Rattle.scan.proofs.keys.distinct.Tie as tie
 
--- i keys are apart, and their marks are set
 abbrev Inv-loop : tie.InvT-loop
-Inv-loop pairs count labels n marks₀ i₀ marks i =
-    (i ≤ n) × ((n ≡ min count (length pairs)) × ((length marks ≡ 1024) × ((once eqb (keys labels i pairs) ≡ true) × Marked labels pairs i marks)))
+Inv-loop pairs count n labels₀ others₀ first i₀ labels others i =
+    (i ≤ n) × ((n ≡ min count (length pairs)) × (Seen true pairs i labels × Seen false pairs i others))
 
 abbrev μ-loop : tie.MeasureT-loop
-μ-loop pairs count labels n marks₀ i₀ marks i = n - i
-
-returns : tie.Need-returns Inv-loop μ-loop
-returns c = let a = c .before .before .args in sym (few (a .labels) (a .pairs .now) (a .count) (c .if1 .taken))
+μ-loop pairs count n labels₀ others₀ first i₀ labels others i = n - i
 
 least-requires : tie.Need-least-requires Inv-loop μ-loop
 least-requires c κs = search needs
 
+returns : tie.Need-returns Inv-loop μ-loop
+returns c =
+    let a = c .before .before .before .args in
+    let h : min (a .count) (length (a .pairs .now)) < 2 = omega (arith, c .before .least .ensures) in
+    rw (few true (a .pairs .now) (a .count) h, few false (a .pairs .now) (a .count) h)
+
+shared-slice-read-first : tie.Need-shared-slice-read-first Inv-loop μ-loop
+shared-slice-read-first c = omega arith
+
+mark-of-requires : tie.Need-mark-of-requires Inv-loop μ-loop
+mark-of-requires c κs = search needs
+
+array-write-labels : tie.Need-array-write-labels Inv-loop μ-loop
+array-write-labels c = omega arith
+
+mark-of-requires-2 : tie.Need-mark-of-requires-2 Inv-loop μ-loop
+mark-of-requires-2 c κs = search needs
+
+array-write-others : tie.Need-array-write-others Inv-loop μ-loop
+array-write-others c = omega arith
+
 loop-holds : tie.Need-loop-holds Inv-loop μ-loop
-loop-holds c = let a = c .before .before .before .args in (
-  omega arith,
-  (c .least .ensures, (refl, (once-none (a .labels) (a .pairs .now), λ x z. no-way z (any-none (a .labels) (a .pairs .now) (eqb x))))),
-)
+loop-holds c =
+    let a = c .before .before .before .before .before .before .args in
+    let h : 0 < length (a .pairs .now) = omega (arith, c .before .before .before .before .least .ensures) in (
+      omega arith,
+      (
+        c .before .before .before .before .least .ensures,
+        (rw (c .before .mark-of .ensures) (seen-first true (a .pairs .now) (replicate 1024 false) refl h), rw (c .mark-of2 .ensures) (seen-first false (a .pairs .now) (replicate 1024 false) refl h)),
+      ),
+    )
 
-mul-key-in : tie.Need-mul-key-in Inv-loop μ-loop
-mul-key-in c = omega arith
+mul-pair : tie.Need-mul-pair Inv-loop μ-loop
+mul-pair c = omega arith
 
-shared-slice-read-key-in : tie.Need-shared-slice-read-key-in Inv-loop μ-loop
-shared-slice-read-key-in c = omega arith
+shared-slice-read-pair : tie.Need-shared-slice-read-pair Inv-loop μ-loop
+shared-slice-read-pair c = omega arith
+
+mark-of-requires-3 : tie.Need-mark-of-requires-3 Inv-loop μ-loop
+mark-of-requires-3 c κs = search needs
+
+mark-of-requires-4 : tie.Need-mark-of-requires-4 Inv-loop μ-loop
+mark-of-requires-4 c κs = search needs
+
+array-read-if2 : tie.Need-array-read-if2 Inv-loop μ-loop
+array-read-if2 c =
+    omega (arith, c .before .mark-of3 .ensures)
 
 key-in-requires : tie.Need-key-in-requires Inv-loop μ-loop
 key-in-requires c κs = search needs
-
-array-read-if2 : tie.Need-array-read-if2 Inv-loop μ-loop
-array-read-if2 c = omega arith
 
 among-requires : tie.Need-among-requires Inv-loop μ-loop
 among-requires c κs = search needs
 
 returns-2 : tie.Need-returns-2 Inv-loop μ-loop
-returns-2 c = let a = c .before .before .before .before .before .before .before .before .before .before .args in
-    let l = c .before .before .before .before .before .before .loop in
-    let h : l .i < length (a .pairs .now) = omega arith in
-    let k : l .i < a .count = omega arith in
-    let e = c .before .before .before .key-in .ensures in
-    sym
-    (twice (a .labels) (a .pairs .now) (l .i) (a .count) h k
-    (ap (λ (x : ℕ). any (eqb x) (keys (a .labels) (l .i) (a .pairs .now))) (sym e) ∙ sym (c .before .among .ensures) ∙ c .if3 .taken))
+returns-2 c =
+    let a = c .before .before .before .before .before .before .before .before .before .before .before .before .before .before .before .args in
+    let l = c .before .before .before .before .before .before .before .before .loop in
+    let there = ap (λ (x : ℕ). any (eqb x) (keys true (l .i) (a .pairs .now))) (sym (c .before .before .key-in .ensures)) ∙ sym (c .before .among .ensures) ∙ c .if3 .taken in
+    rw (twice true (a .pairs .now) (l .i) (a .count) (omega arith) (omega arith) there)
 
-array-write-marks : tie.Need-array-write-marks Inv-loop μ-loop
-array-write-marks c = omega arith
+array-read-if4 : tie.Need-array-read-if4 Inv-loop μ-loop
+array-read-if4 c =
+    omega (arith, c .before .mark-of4 .ensures)
+
+key-in-requires-2 : tie.Need-key-in-requires-2 Inv-loop μ-loop
+key-in-requires-2 c κs = search needs
+
+among-requires-2 : tie.Need-among-requires-2 Inv-loop μ-loop
+among-requires-2 c κs = search needs
+
+returns-3 : tie.Need-returns-3 Inv-loop μ-loop
+returns-3 c =
+    let a = c .before .before .before .before .before .before .before .before .before .before .before .before .before .before .before .before .args in
+    let l = c .before .before .before .before .before .before .before .before .before .loop in
+    let there = ap (λ (x : ℕ). any (eqb x) (keys false (l .i) (a .pairs .now))) (sym (c .before .before .key-in2 .ensures)) ∙ sym (c .before .among2 .ensures) ∙ c .if5 .taken in
+    let same : distinctIn false (a .count) (a .pairs .now) ≡ false = twice false (a .pairs .now) (l .i) (a .count) (omega arith) (omega arith) there in
+    split (distinctIn true (a .count) (a .pairs .now)) (λ t. rw (t, same)) (λ f. rw f)
+
+array-write-labels-2 : tie.Need-array-write-labels-2 Inv-loop μ-loop
+array-write-labels-2 c =
+    omega (arith, c .before .before .before .mark-of3 .ensures)
+
+array-write-others-2 : tie.Need-array-write-others-2 Inv-loop μ-loop
+array-write-others-2 c =
+    omega (arith, c .before .before .mark-of4 .ensures)
 
 add-i : tie.Need-add-i Inv-loop μ-loop
 add-i c = omega arith
@@ -70,39 +119,45 @@ loop-less : tie.Need-loop-less Inv-loop μ-loop
 loop-less c = omega arith
 
 loop-again : tie.Need-loop-again Inv-loop μ-loop
-loop-again c = let a = c .before .before .before .before .before .before .before .before .args in
-    let l = c .before .before .before .before .loop in
+loop-again c =
+    let a = c .before .before .before .before .before .before .before .before .before .before .before .before .before .args in
+    let l = c .before .before .before .before .before .before .loop in
     let h : l .i < length (a .pairs .now) = omega arith in
-    let e = c .before .key-in .ensures in
-    let new : any (eqb (c .before .key-in .result)) (keys (a .labels) (l .i) (a .pairs .now)) ≡ false =
+    let pair = getD (a .pairs .now) (l .i) 0 in
+    let x = c .before .before .before .mark-of3 .ensures in
+    let y = c .before .before .mark-of4 .ensures in
+    let new : any (eqb (keyIn true pair)) (keys true (l .i) (a .pairs .now)) ≡ false =
     ⊎-elim
-    (λ w. sym (w .1 .ensures) ∙ w .2 .left)
-    (λ w. unmarked (a .labels) (a .pairs .now) (l .i) (l .marks) (l .inv .1 .1 .1 .1) (c .before .key-in .result) (w .left))
-    (c .if2 .came) in (
+    (λ w. ap (λ (k : ℕ). any (eqb k) (keys true (l .i) (a .pairs .now))) (sym (w .1 .ensures)) ∙ sym (w .2 .ensures) ∙ w .3 .left)
+    (λ w. seen-new true (a .pairs .now) (l .i) (l .labels) (l .inv .1 .1 .0) (keyIn true pair) (ap (λ (k : ℕ). getD (l .labels) k false) (sym x) ∙ w .left))
+    (c .before .if2 .came) in
+    let fresh : any (eqb (keyIn false pair)) (keys false (l .i) (a .pairs .now)) ≡ false =
+    ⊎-elim
+    (λ w. ap (λ (k : ℕ). any (eqb k) (keys false (l .i) (a .pairs .now))) (sym (w .1 .ensures)) ∙ sym (w .2 .ensures) ∙ w .3 .left)
+    (λ w. seen-new false (a .pairs .now) (l .i) (l .others) (l .inv .1 .1 .1) (keyIn false pair) (ap (λ (k : ℕ). getD (l .others) k false) (sym y) ∙ w .left))
+    (c .if4 .came) in (
       omega arith,
       (
         l .inv .1 .0,
         (
-          simp length-set (l .inv .1 .1 .0),
-          (
-            still-once (a .labels) (a .pairs .now) (l .i) h
-                (ap (λ (x : ℕ). any (eqb x) (keys (a .labels) (l .i) (a .pairs .now))) (sym e) ∙ new) (l .inv .1 .1 .1 .0),
-            rw e (marked-more (a .labels) (a .pairs .now) (l .i) (l .marks) h (l .inv .1 .1 .0) (l .inv .1 .1 .1 .1)),
-          ),
+          rw x (seen-more true (a .pairs .now) (l .i) (l .labels) h (l .inv .1 .1 .0) new),
+          rw y (seen-more false (a .pairs .now) (l .i) (l .others) h (l .inv .1 .1 .1) fresh),
         ),
       ),
     )
 
-returns-3 : tie.Need-returns-3 Inv-loop μ-loop
-returns-3 c = let a = c .before .before .before .before .before .args in
+returns-4 : tie.Need-returns-4 Inv-loop μ-loop
+returns-4 c =
+    let a = c .before .before .before .before .before .before .before .before .args in
     let l = c .before .loop in
     let e : l .i ≡ min (a .count) (length (a .pairs .now)) = omega arith in
-    sym
-    (distinct-all (a .labels) (a .pairs .now) (a .count)
-    (ap (λ (n : ℕ). once eqb (keys (a .labels) n (a .pairs .now))) (sym e) ∙ l .inv .1 .1 .1 .0))
+    rw (
+    seen-all true (a .pairs .now) (a .count) (l .labels) (subst (λ (n : ℕ). Seen true (a .pairs .now) n (l .labels)) e (l .inv .1 .1 .0)),
+    seen-all false (a .pairs .now) (a .count) (l .others) (subst (λ (n : ℕ). Seen false (a .pairs .now) n (l .others)) e (l .inv .1 .1 .1)))
 
 pub distinct-spec : {M : Type 1} → statement M
 distinct-spec =
     tie.close
-    (tie.spec Inv-loop μ-loop returns least-requires loop-holds mul-key-in shared-slice-read-key-in key-in-requires array-read-if2 among-requires returns-2
-    array-write-marks add-i loop-less loop-again returns-3)
+    (tie.spec Inv-loop μ-loop least-requires returns shared-slice-read-first mark-of-requires array-write-labels mark-of-requires-2 array-write-others loop-holds
+    mul-pair shared-slice-read-pair mark-of-requires-3 mark-of-requires-4 array-read-if2 key-in-requires among-requires returns-2 array-read-if4
+    key-in-requires-2 among-requires-2 returns-3 array-write-labels-2 array-write-others-2 add-i loop-less loop-again returns-4)

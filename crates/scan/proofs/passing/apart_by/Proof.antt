@@ -11,7 +11,5 @@ apart-by-spec =
     tie.close
     (tie.spec
     (λ c κs. search needs)
-    (λ c κs. search needs)
-    (λ c. rw (c .distinct2 .ensures, ← c .before .before .distinct .ensures, c .before .if2 .taken, c .before .before .before .if1 .taken))
-    (λ c. rw (← c .before .distinct .ensures, c .if2 .left, c .before .before .if1 .taken))
+    (λ c. rw (c .distinct .ensures, c .before .if1 .taken))
     (λ c. rw (c .if1 .left)))
