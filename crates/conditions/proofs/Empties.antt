@@ -22,9 +22,8 @@ second-empty : (a b : Condition) (clock : ℕ) → eqb (b .key .kind) 0 ≡ true
 unfolding clash
 second-empty a b clock e = split (filled a) (λ f. rw (f, e)) (λ f. rw f)
 
-pub empty-apart : (a b c d : Condition) (clock : ℕ) → eqb (a .key .kind) 0 ≡ true
-    → (not (clash a b clock) && not (clash a c clock) && not (clash a d clock)) ≡ true
-empty-apart a b c d clock e = rw (first-empty a b clock e, first-empty a c clock e, first-empty a d clock e)
+pub empty-apart : (a b c : Condition) (clock : ℕ) → eqb (a .key .kind) 0 ≡ true → (not (clash a b clock) && not (clash a c clock)) ≡ true
+empty-apart a b c clock e = rw (first-empty a b clock e, first-empty a c clock e)
 
 pub empty-sound : (c : Condition) (clock : ℕ) → eqb (c .key .kind) 0 ≡ true → placeSound c clock ≡ true
 unfolding placeSound
@@ -54,6 +53,20 @@ pub none-filled : (cs : Conditions) (clock : ℕ)
     → conditionsSound cs clock ≡ true
 none-filled cs clock e =
     split (eqb (cs .first .key .kind) 0) (λ f. first-alone cs clock (rw f at e) ∙ empty-sound (cs .first) clock f) (λ f. no-way e (rw f))
+
+grouped : (p x y z : Bool) → (p && x && y && z) ≡ (p && (x && y && z))
+grouped true x y z = refl
+grouped false x y z = refl
+
+-- the six pairs: the first place with three others, the second with two, the third with one
+pub by-places : (cs : Conditions) (clock : ℕ)
+    → noClash cs clock
+    ≡ ((not (clash (cs .first) (cs .second) clock) && not (clash (cs .first) (cs .third) clock) && not (clash (cs .first) (cs .fourth) clock))
+    && ((not (clash (cs .second) (cs .third) clock) && not (clash (cs .second) (cs .fourth) clock)) && not (clash (cs .third) (cs .fourth) clock)))
+unfolding noClash
+by-places cs clock =
+    grouped (not (clash (cs .first) (cs .second) clock) && not (clash (cs .first) (cs .third) clock) && not (clash (cs .first) (cs .fourth) clock))
+    (not (clash (cs .second) (cs .third) clock)) (not (clash (cs .second) (cs .fourth) clock)) (not (clash (cs .third) (cs .fourth) clock))
 
 -- keys alike are of one type
 alike-filled : (a b : Condition) → sameKey (a .key) (b .key) ≡ true → filled b ≡ filled a

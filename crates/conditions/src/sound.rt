@@ -57,9 +57,9 @@ fn do_clash(a: Condition, b: Condition, clock: u64) -> bool
     false
 }
 
-// Whether a clashes with none of the three others.
-fn apart(a: Condition, b: Condition, c: Condition, d: Condition, clock: u64) -> bool
-    ensures { λ r. ⌜ r ≡ (not (clash a b clock) && not (clash a c clock) && not (clash a d clock)) ⌝ }
+// Whether a clashes with neither of two others.
+fn apart_from_two(a: Condition, b: Condition, c: Condition, clock: u64) -> bool
+    ensures { λ r. ⌜ r ≡ (not (clash a b clock) && not (clash a c clock)) ⌝ }
 {
     if a.key.kind == 0 {
         return true;
@@ -67,11 +67,18 @@ fn apart(a: Condition, b: Condition, c: Condition, d: Condition, clock: u64) -> 
     if do_clash(a, b, clock) {
         return false;
     }
-    if do_clash(a, c, clock) {
+    let last = do_clash(a, c, clock);
+    !last
+}
+
+// Whether a clashes with none of three others.
+fn apart(a: Condition, b: Condition, c: Condition, d: Condition, clock: u64) -> bool
+    ensures { λ r. ⌜ r ≡ (not (clash a b clock) && not (clash a c clock) && not (clash a d clock)) ⌝ }
+{
+    if do_clash(a, b, clock) {
         return false;
     }
-    let last = do_clash(a, d, clock);
-    !last
+    apart_from_two(a, c, d, clock)
 }
 
 fn none_clash(cs: Conditions, clock: u64) -> bool
@@ -82,14 +89,10 @@ fn none_clash(cs: Conditions, clock: u64) -> bool
     let c = cs.third;
     let d = cs.fourth;
     if apart(a, b, c, d, clock) {
-        if do_clash(b, c, clock) {
-            return false;
+        if apart_from_two(b, c, d, clock) {
+            let last = do_clash(c, d, clock);
+            return !last;
         }
-        if do_clash(b, d, clock) {
-            return false;
-        }
-        let last = do_clash(c, d, clock);
-        return !last;
     }
     false
 }

@@ -152,8 +152,9 @@ returns-4 c =
     let l = c .before .loop in
     let e : l .i ≡ min (a .count) (length (a .pairs .now)) = omega arith in
     rw (
-    seen-all true (a .pairs .now) (a .count) (l .labels) (subst (λ (n : ℕ). Seen true (a .pairs .now) n (l .labels)) e (l .inv .1 .1 .0)),
-    seen-all false (a .pairs .now) (a .count) (l .others) (subst (λ (n : ℕ). Seen false (a .pairs .now) n (l .others)) e (l .inv .1 .1 .1)))
+      seen-all true (a .pairs .now) (a .count) (l .labels) (subst (λ (n : ℕ). Seen true (a .pairs .now) n (l .labels)) e (l .inv .1 .1 .0)),
+      seen-all false (a .pairs .now) (a .count) (l .others) (subst (λ (n : ℕ). Seen false (a .pairs .now) n (l .others)) e (l .inv .1 .1 .1)),
+    )
 
 pub distinct-spec : {M : Type 1} → statement M
 distinct-spec =
