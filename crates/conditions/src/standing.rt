@@ -2,9 +2,10 @@
 use crate::Condition;
 use crate::Conditions;
 use octets::bit;
+use octets::both;
 use rules::Settings;
 ghost use mathlib.Core.Path.{_≡_};
-ghost use mathlib.Core.Bool.{_&&_, _||_};
+ghost use mathlib.Core.Bool.{_||_};
 ghost use Rattle.conditions.specs.Standing.{fresh, stands, countAt, followedAt, anyFollowed};
 
 pub fn is_fresh(c: Condition, now: u64) -> bool
@@ -35,15 +36,6 @@ pub fn count_at(cs: Conditions, now: u64) -> u8
     let c = bit(does_stand(third, now));
     let d = bit(does_stand(fourth, now));
     a + b + c + d
-}
-
-fn both(a: bool, b: bool) -> bool
-    ensures { λ r. ⌜ r ≡ (a && b) ⌝ }
-{
-    if a {
-        return b;
-    }
-    false
 }
 
 fn any(a: bool, b: bool, c: bool, d: bool) -> bool

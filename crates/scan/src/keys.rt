@@ -1,7 +1,8 @@
 // No two labels and no two discriminators alike, with marks: only a key whose mark is there is
 // compared with those before it.
+use octets::least;
 ghost use mathlib.Core.Path.{_≡_};
-ghost use Prim.Native.Nat.{min, _%_};
+ghost use Prim.Native.Nat.{_%_};
 ghost use lib.ListN.{length};
 ghost use mathlib.Core.Bool.{Bool, true, false, _&&_};
 ghost use lib.Dec.{eqb};
@@ -28,12 +29,6 @@ fn mark_of(labels: bool, pair: u64) -> usize
     ensures { λ r. ⌜ r ≡ keyIn labels pair % 1024 ⌝ }
 {
     (key_in(labels, pair) % 1024) as usize
-}
-
-fn least(a: usize, b: usize) -> usize
-    ensures { λ r. ⌜ r ≡ min a b ⌝ }
-{
-    if a < b { a } else { b }
 }
 
 // A key stands among the first pairs.

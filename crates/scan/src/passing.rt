@@ -4,32 +4,16 @@ use crate::Summary;
 use crate::Target;
 use crate::keys::distinct;
 use crate::keys::key_pair;
+use octets::both;
+use octets::either;
 use session::Session;
 use table::Head;
 ghost use mathlib.Core.Path.{_≡_};
-ghost use mathlib.Core.Bool.{not, _&&_, _||_, cond};
+ghost use mathlib.Core.Bool.{not, _&&_, cond};
 ghost use lib.Dec.{eqb, ltb};
 ghost use lib.ListN.{length, set};
 ghost use Rattle.table.specs.Places.{firstOn};
 ghost use Rattle.scan.specs.Passing.{startOf, passed, firstPlace, upTo64, isRival, counted, takenIn, noted, apart, judgedOf};
-
-fn both(a: bool, b: bool) -> bool
-    ensures { λ r. ⌜ r ≡ (a && b) ⌝ }
-{
-    if a {
-        return b;
-    }
-    false
-}
-
-fn either(a: bool, b: bool) -> bool
-    ensures { λ r. ⌜ r ≡ (a || b) ⌝ }
-{
-    if a {
-        return true;
-    }
-    b
-}
 
 fn places_of(whole: bool, occupied: u64) -> u64
     ensures { λ r. ⌜ r ≡ cond whole occupied 0 ⌝ }

@@ -3,23 +3,15 @@ use crate::Session;
 use bfd::Packet;
 use gach::CC_CHANNEL;
 use octets::bit;
+use octets::both;
 use rules::Input;
 use rules::Report;
 use rules::State;
 ghost use mathlib.Core.Path.{_≡_};
-ghost use mathlib.Core.Bool.{cond, not, _&&_};
+ghost use mathlib.Core.Bool.{cond, not};
 ghost use Rattle.rules.specs.States.{moved};
 ghost use Rattle.rules.specs.declared.Input.the-variants.{Timer};
 ghost use Rattle.session.specs.Queries.{lockedIn, lossAt, crossingAt, stateAt, reportAt, diagnosticAt, packetAt, ccOctetsAt, cvOctetsAt};
-
-fn both(a: bool, b: bool) -> bool
-    ensures { λ r. ⌜ r ≡ (a && b) ⌝ }
-{
-    if a {
-        return b;
-    }
-    false
-}
 
 pub fn is_locked(s: Session) -> bool
     ensures { λ r. ⌜ r ≡ lockedIn s ⌝ }

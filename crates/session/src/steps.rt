@@ -6,11 +6,12 @@ use crate::queries::state_at;
 use bfd::Packet;
 use fault::Fault;
 use octets::bit;
+use octets::either;
 use rules::Input;
 use rules::Settings;
 use rules::State;
 ghost use mathlib.Core.Path.{_≡_};
-ghost use mathlib.Core.Bool.{cond, not, _&&_, _||_};
+ghost use mathlib.Core.Bool.{cond, not};
 ghost use Rattle.rules.specs.declared.State.the-variants.{Down};
 ghost use Rattle.rules.specs.Conditions.{actsOn, faultState};
 ghost use Rattle.session.specs.Steps.{opened, settled, lockedBy, unlockedAt, heardCc, heardCv, crossedAt, faultTaken, ccWritten};
@@ -99,15 +100,6 @@ pub fn unlocked_at(s: Session, reading: u64) -> Session
     next.peer.multiplier = multiplier;
     next.timed = timed;
     next
-}
-
-fn either(a: bool, b: bool) -> bool
-    ensures { λ r. ⌜ r ≡ (a || b) ⌝ }
-{
-    if a {
-        return true;
-    }
-    b
 }
 
 // A heard CC.
