@@ -1,0 +1,3 @@
+pub mod Parsing
+pub mod Reached
+pub mod Feeds
