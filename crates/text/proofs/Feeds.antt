@@ -9,10 +9,10 @@ use mathlib.Core.List.{List, [], _∷_, _++_, append-assoc, append-nil}
 use lib.Dec.{eqb, leb}
 use lib.ListN.{length, take, drop, replicate, length-set, length-append, length-drop}
 use lib.Seq.{drop-drop, take-at, length-take-le}
-use borrow.Author.Tests.{leb-true}
+use borrow.Author.Tests.{leb-true, le-leb}
 use Rattle.octets.proofs.Chain.{and-both}
 use Rattle.rules.specs.Calls.{Call, Said}
-use Rattle.rules.proofs.Bools.{split}
+use Rattle.rules.proofs.Bools.{split, both-true}
 use Rattle.session.specs.declared.Session.{Session}
 use Rattle.table.specs.declared.Head.{Head}
 use Rattle.table.specs.Table.{Table, answer, next}
@@ -224,3 +224,32 @@ module _ (input : List ℕ) where
       let a = turned h x r k l m in
       subst (λ (y : Flow). Went input h x y) (sym (goes n x m)) (onward a (went-on n (a .past) (turnOf input x) (a .reached) (a .rows ∙ k) (a .within))))
       (λ m. subst (λ (y : Flow). Went input h x y) (sym (stops (suc n) x m)) (stayed h x r l))
+
+  -- where there is more, octets are used
+  turn-used : (x : Flow) → turnOf input x .fed .used ≡ x .fed .used + sizeOf (nextIn (drop (x .fed .used) input))
+  unfolding turnOf answered
+  turn-used x = refl
+
+  took : (n : ℕ) (h : History) (x : Flow) → Reached h (tableOf (x .row) (x .fed .head)) → length (x .row) ≡ 64 → x .fed .written ≤ length (x .out)
+      → moreOf (x .fed) input (length (x .out)) ≡ true → x .fed .used < goOn input (suc n) x .fed .used
+  took n h x r k l m =
+      let a = turned h x r k l m in
+      let b = went-on n (a .past) (turnOf input x) (a .reached) (a .rows ∙ k) (a .within) in
+      rw (goes n x m) (omega (arith, b .used, turn-used x, whole-size (drop (x .fed .used) input) (more-whole x m .0) .0))
+
+-- ---- a feed
+module _ (row : List Session) (f : Fed) (input out : List ℕ) (h : History) (r : Reached h (tableOf row (f .head))) (k : length row ≡ 64) where
+  abbrev from-here : Flow
+  from-here = record { row = row; fed = f; out = out }
+
+  pub feed-went : f .written ≤ length out → Went input h from-here (feedOf row f input out)
+  unfolding feedOf
+  feed-went l = went-on input (length input) h from-here r k l
+
+  -- a whole record that stands next, with room for a line, is taken
+  pub feed-took : f .written + 160 ≤ length out → isWhole (nextIn (drop (f .used) input)) ≡ true → f .used < feedOf row f input out .fed .used
+  unfolding feedOf moreOf
+  feed-took l w =
+      let m = both-true w (le-leb 160 (length out - f .written) (omega arith)) in
+      let some : length input ≡ suc (length input - 1) = omega (arith, whole-size (drop (f .used) input) w .0, whole-size (drop (f .used) input) w .1, length-drop (f .used) input) in
+      rw some (took input (length input - 1) h from-here r k (omega arith) m)

@@ -1,3 +1,4 @@
 pub mod Parsing
 pub mod Reached
 pub mod Feeds
+pub mod Going

@@ -33,14 +33,18 @@ unfoldable pub linesAfter : History → ℕ → List Call → List ℕ
 linesAfter h n [] = []
 linesAfter h n (c ∷ cs) = line (numbered n) c (says h c) ++ linesAfter (after h c (says h c)) (numbered n) cs
 
+-- the line `cut`
+abbrev pub cut : List ℕ
+cut = 99 ∷ 117 ∷ 116 ∷ 10 ∷ []
+
+-- the line `bad header`
+abbrev pub badHeader : List ℕ
+badHeader = 98 ∷ 97 ∷ 100 ∷ 32 ∷ 104 ∷ 101 ∷ 97 ∷ 100 ∷ 101 ∷ 114 ∷ 10 ∷ []
+
 -- `cut` where something is left that is no whole record: part of one, a kind above 8, too great a length
 abbrev pub ending : List ℕ → List ℕ
 ending [] = []
-ending (b ∷ bs) = 99 ∷ 117 ∷ 116 ∷ 10 ∷ []
-
--- the octets of `bad header` and a new line
-abbrev pub badHeader : List ℕ
-badHeader = 98 ∷ 97 ∷ 100 ∷ 32 ∷ 104 ∷ 101 ∷ 97 ∷ 100 ∷ 101 ∷ 114 ∷ 10 ∷ []
+ending (b ∷ bs) = cut
 
 -- the text of the octets that come after a history
 unfoldable pub textAfter : History → ℕ → List ℕ → List ℕ
