@@ -132,11 +132,11 @@ module _ (input : List ℕ) where
   -- one record: its line is put, and row and head are as its call leaves them
   abbrev after-one : Flow → List ℕ → List Session → Head → Flow
   after-one x text row head =
-        record {
-          row = row;
-          fed = record { head = head; number = numbered (x .fed .number); used = x .fed .used + sizeOf (nextIn (drop (x .fed .used) input)); written = x .fed .written + length text };
-          out = take (x .fed .written) (x .out) ++ text ++ drop (x .fed .written + length text) (x .out);
-        }
+      record {
+        row = row;
+        fed = record { head = head; number = numbered (x .fed .number); used = x .fed .used + sizeOf (nextIn (drop (x .fed .used) input)); written = x .fed .written + length text };
+        out = take (x .fed .written) (x .out) ++ text ++ drop (x .fed .written + length text) (x .out);
+      }
 
   module _ (h : History) (x : Flow) (text : List ℕ) (row : List Session) (head : Head) where
     abbrev c : Call

@@ -72,12 +72,12 @@ unfolding textAfter
 text-parts h g m n s r part l e = rw (l, e) (append-assoc part (linesAfter g n (parsed r .calls)) (ending (parsed r .rest)))
 
 module _ (capture text out₀ out : List ℕ) (room : ℕ) (t : Feeding) (at : ℕ) (b : Bool) (fits : b ≡ true) (state : State b capture text out₀ out room t at)
-  (within : length out ≤ room) where
+    (within : length out ≤ room) where
   abbrev g : Going capture text out₀ out t at
   g = subst (λ (a : Bool). State a capture text out₀ out room t at) fits state
 
   module _ (part : List ℕ) (u : Feeding) (past : History) (r : Reached past (tableOf (u .row) (u .fed .head))) (k : length (u .row) ≡ 64)
-    (e : textAfter (g .past) (t .fed .number) (drop (t .fed .used) capture) ≡ part ++ textAfter past (u .fed .number) (drop (u .fed .used) capture)) where
+      (e : textAfter (g .past) (t .fed .number) (drop (t .fed .used) capture) ≡ part ++ textAfter past (u .fed .number) (drop (u .fed .used) capture)) where
     abbrev left : List ℕ
     left = textAfter past (u .fed .number) (drop (u .fed .used) capture)
 
@@ -106,7 +106,7 @@ module _ (capture text out₀ out : List ℕ) (room : ℕ) (t : Feeding) (at : �
 
   -- a feed, and its lines put
   module _ (v : Feeding) (rewind : v ≡ rewound t) (u : Feeding) (lines : List ℕ)
-    (feed : record { row = u .row; fed = u .fed; out = lines } ≡ feedOf (v .row) (v .fed) capture (replicate 160 0)) where
+      (feed : record { row = u .row; fed = u .fed; out = lines } ≡ feedOf (v .row) (v .fed) capture (replicate 160 0)) where
     fed : record { row = u .row; fed = u .fed; out = lines } ≡ feedOf (rewound t .row) (rewound t .fed) capture (replicate 160 0)
     fed = feed ∙ ap (λ (w : Feeding). feedOf (w .row) (w .fed) capture (replicate 160 0)) rewind
 

@@ -2,3 +2,4 @@ pub mod Parsing
 pub mod Reached
 pub mod Feeds
 pub mod Going
+pub mod Finishing

@@ -63,14 +63,15 @@ loop-less c =
 
 loop-again : tie.Need-loop-again Inv-loop μ-loop
 loop-again c =
-    let p = c .before .before .put-part in
-    (let f = c .before .before .before .before .before .before in
-    let l = f .before .before .before .before .before .before .before .loop in
-    let a = f .before .before .before .before .before .before .before .before .before .before .before .args in
-    let r = f .before .before .rewind in
-    turn (a .capture .now) _ (a .out .now) (l .out) (a .room) (l .t) (l .c .octets) (l .c .fits) (f .before .before .before .before .before .before .loop-test .taken) (l .inv .0) (omega (arith, l .inv .1, f .before .before .before .before .before .before .before .before .before .before .before .pre))
-    (r .result) (r .ensures) (f .feed .result) (f .feed .last .1 .1 .0) (f .feed .ensures) (p .result) (p .last .0) (p .ensures),
-    put-length _ _ _ _ (p .result) (p .last .0) (p .ensures) ∙ c .before .before .before .before .before .before .before .before .before .before .before .before .before .loop .inv .1)
+    let p = c .before .before .put-part in (
+      let f = c .before .before .before .before .before .before in
+          let l = f .before .before .before .before .before .before .before .loop in
+          let a = f .before .before .before .before .before .before .before .before .before .before .before .args in
+          let r = f .before .before .rewind in
+          turn (a .capture .now) _ (a .out .now) (l .out) (a .room) (l .t) (l .c .octets) (l .c .fits) (f .before .before .before .before .before .before .loop-test .taken) (l .inv .0) (omega (arith, l .inv .1, f .before .before .before .before .before .before .before .before .before .before .before .pre))
+          (r .result) (r .ensures) (f .feed .result) (f .feed .last .1 .1 .0) (f .feed .ensures) (p .result) (p .last .0) (p .ensures),
+      put-length _ _ _ _ (p .result) (p .last .0) (p .ensures) ∙ c .before .before .before .before .before .before .before .before .before .before .before .before .before .loop .inv .1,
+    )
 
 returns : tie.Need-returns Inv-loop μ-loop
 returns c =
