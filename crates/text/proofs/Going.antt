@@ -7,9 +7,9 @@ use mathlib.Core.Path.{_≡_, refl, sym, ap, subst, _∙_}
 use mathlib.Core.Bool.{Bool, true, false, cond}
 use mathlib.Core.List.{List, [], _∷_, _++_, append-assoc, append-nil}
 use lib.Dec.{leb, ltb}
-use lib.ListN.{length, take, drop, replicate, length-append, length-drop, length-replicate, drop-of-length-le}
-use lib.Seq.{sets, length-sets, drop-cons}
-use borrow.Author.Tests.{leb-false, lt-leb, ltb-true, ltb-false}
+use lib.ListN.{length, take, drop, replicate, length-append, length-drop, length-replicate}
+use lib.Seq.{sets, length-sets}
+use borrow.Author.Tests.{leb-false, lt-leb, ltb-true, ltb-false, eq-eqb, ne-eqb}
 use Rattle.octets.proofs.Runs.{past as put-past, joined}
 use Rattle.rules.proofs.Bools.{split}
 use Rattle.session.specs.declared.Session.{Session}
@@ -61,8 +61,8 @@ begins capture out =
 ending-is : (s : List ℕ) (n : ℕ) → ending (drop n s) ≡ cond (ltb n (length s)) cut []
 ending-is s n =
     split (ltb n (length s))
-    (λ e. rw (e, drop-cons s n 0 (ltb-true n (length s) e)))
-    (λ e. let all : length s ≤ n = ltb-false n (length s) e in rw (e, drop-of-length-le s all))
+    (λ e. rw (e, ne-eqb (length (drop n s)) 0 (λ z. omega (arith, ltb-true n (length s) e, length-drop n s))))
+    (λ e. rw (e, eq-eqb (length (drop n s)) 0 (omega (arith, ltb-false n (length s) e, length-drop n s))))
 
 -- ---- one turn
 -- a part and what is left behind it

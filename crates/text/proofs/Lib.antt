@@ -3,3 +3,5 @@ pub mod Reached
 pub mod Feeds
 pub mod Going
 pub mod Finishing
+pub mod Pieces
+pub mod Numbering

@@ -81,13 +81,13 @@ module _ (s f : List ℕ) (e : isWhole (nextIn s) ≡ true) where
 
 -- ---- the length is enough
 -- one record of at most suc n
-by-whole : (n : ℕ) (s : List ℕ) → isWhole (nextIn s) ≡ true
+pub by-whole : (n : ℕ) (s : List ℕ) → isWhole (nextIn s) ≡ true
     → parsedBy (suc n) s
     ≡ record { calls = callIn s ∷ parsedBy n (drop (sizeOf (nextIn s)) s) .calls; rest = parsedBy n (drop (sizeOf (nextIn s)) s) .rest }
 unfolding parsedBy
 by-whole n s e = rw e
 
-by-none : (n : ℕ) (s : List ℕ) → isWhole (nextIn s) ≡ false → parsedBy n s ≡ record { calls = []; rest = s }
+pub by-none : (n : ℕ) (s : List ℕ) → isWhole (nextIn s) ≡ false → parsedBy n s ≡ record { calls = []; rest = s }
 unfolding parsedBy
 by-none zero s e = refl
 by-none (suc n) s e = rw e

@@ -4,6 +4,7 @@
 use Prim.Native.Nat.{ℕ, zero, suc}
 use mathlib.Core.Bool.{cond}
 use mathlib.Core.List.{List, [], _∷_, _++_}
+use lib.Dec.{eqb}
 use lib.ListN.{length, drop}
 use Rattle.rules.specs.Calls.{Call}
 use Rattle.capture.specs.Records.{headerFits, nextIn, callIn}
@@ -43,8 +44,7 @@ badHeader = 98 ∷ 97 ∷ 100 ∷ 32 ∷ 104 ∷ 101 ∷ 97 ∷ 100 ∷ 101 ∷ 
 
 -- `cut` where something is left that is no whole record: part of one, a kind above 8, too great a length
 abbrev pub ending : List ℕ → List ℕ
-ending [] = []
-ending (b ∷ bs) = cut
+ending rest = cond (eqb (length rest) 0) [] cut
 
 -- the text of the octets that come after a history
 unfoldable pub textAfter : History → ℕ → List ℕ → List ℕ

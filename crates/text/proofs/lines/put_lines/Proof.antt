@@ -85,8 +85,8 @@ returns-2 c =
     let a = c .before .before .before .before .before .before .before .before .before .before .before .before .args in
     let fits = not-false (l .c .fits) (c .before .before .before .before .before .if2 .left) in
     let p = c .before .before .put-end in
-    let whole : isWhole (nextIn (drop (l .t .fed .used) (a .capture .now))) ≡ false =
-    ⊎-elim (λ k. ap isWhole (sym (k .1 .ensures)) ∙ sym (k .2 .ensures) ∙ k .3 .left) (λ k. no-way fits (k .left)) (c .before .before .before .before .before .before .before .loop-test .came) in
+    let whole =
+    ⊎-elim {C = isWhole (nextIn (drop (l .t .fed .used) (a .capture .now))) ≡ false} (λ k. ap isWhole (sym (k .1 .ensures)) ∙ sym (k .2 .ensures) ∙ k .3 .left) (λ k. no-way fits (k .left)) (c .before .before .before .before .before .before .before .loop-test .came) in
     ends (a .capture .now) _ (a .out .now) (l .out) (a .room) (l .t) (l .c .octets) (l .c .fits) fits (l .inv .0) (omega (arith, l .inv .1, c .before .before .before .before .before .before .before .before .before .before .before .before .pre)) whole (p .result) (p .last .0) (p .ensures)
 
 pub put-lines-spec : {M : Type 1} → statement M
