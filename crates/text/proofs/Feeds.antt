@@ -1,29 +1,25 @@
 -- What a feed writes is text of the capture: the lines of the records that it takes, as the meaning has them, and the text of what it leaves follows behind.
 -- Assumes nothing.
-use Prim.Native.Nat.{ℕ, zero, suc, _+_, _-_, _≤_, _<_, _^_}
+use Prim.Native.Nat.{ℕ, zero, suc, _+_, _-_, _≤_, _<_}
 use native.Mathlib.Omega.{arith}
-use native.Mathlib.Nat.{add-assoc}
 use mathlib.Core.Path.{_≡_, refl, sym, ap, subst, _∙_}
-use mathlib.Core.Bool.{Bool, true, false, cond, _&&_}
+use mathlib.Core.Bool.{true, false}
 use mathlib.Core.List.{List, [], _∷_, _++_, append-assoc, append-nil}
 use lib.Dec.{eqb, leb}
-use lib.ListN.{length, take, drop, replicate, length-set, length-append, length-drop}
+use lib.ListN.{length, take, drop, length-set, length-append, length-drop}
 use lib.Seq.{drop-drop, take-at, length-take-le}
 use borrow.Author.Tests.{leb-true, le-leb}
 use Rattle.octets.proofs.Chain.{and-both}
-use Rattle.rules.specs.Calls.{Call, Said}
+use Rattle.rules.specs.Calls.{Call}
 use Rattle.rules.proofs.Bools.{split, both-true}
 use Rattle.session.specs.declared.Session.{Session}
 use Rattle.table.specs.declared.Head.{Head}
-use Rattle.table.specs.Table.{Table, answer, next}
-use Rattle.step.specs.declared.Outcome.{Outcome}
 use Rattle.step.specs.declared.Request.{Request}
 use Rattle.step.specs.Requests.{requestOf}
 use Rattle.step.specs.Stepping.{tableOf, rowStep, rowAfter}
 use Rattle.step.proofs.TableStep.{step-table}
-use Rattle.capture.specs.declared.Record.{Record}
 use Rattle.capture.specs.Records.{nextIn, actOf, callOf, callIn, recordIn, bodyIn}
-use Rattle.capture.specs.Lines.{Put, line, lineFor, typed}
+use Rattle.capture.specs.Lines.{line, lineFor}
 use Rattle.capture.proofs.LineSaid.{Exact, ExactAct, line-said}
 use Rattle.capture.proofs.Typing.{typed-fits, line-short}
 use Rattle.feed.specs.declared.Fed.{Fed}

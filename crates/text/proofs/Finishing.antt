@@ -1,24 +1,21 @@
 -- What `run` comes to, by its three ways: a wrong header, a text that does not fit, a text that does.
 -- Assumes nothing.
-use Prim.Native.Nat.{ℕ, _+_, _≤_, _<_}
-use native.Mathlib.Omega.{arith}
+use Prim.Native.Nat.{ℕ, _≤_}
 use native.Mathlib.Nat.{zero-add}
-use mathlib.Core.Path.{_≡_, refl, sym, ap, _∙_}
-use mathlib.Core.Bool.{Bool, true, false, cond}
-use mathlib.Core.List.{List, _++_}
+use mathlib.Core.Path.{_≡_, sym, ap, _∙_}
+use mathlib.Core.Bool.{true, false}
+use mathlib.Core.List.{List}
 use lib.Dec.{leb}
 use lib.ListN.{length, drop}
-use lib.Seq.{sets}
 use borrow.Author.Tests.{leb-true, leb-false}
-use Rattle.octets.specs.Writing.{Written, writing}
+use Rattle.octets.specs.Writing.{writing}
 use Rattle.octets.proofs.Writing.{short, fits}
 use Rattle.octets.proofs.Runs.{front}
 use Rattle.capture.specs.Records.{headerFits}
 use Rattle.meaning.specs.Histories.{start}
 use Rattle.text.specs.declared.Count.{Count}
-use Rattle.text.specs.declared.Ran.{Ran}
 use Rattle.text.specs.Text.{badHeader, textAfter, textOf}
-use Rattle.text.specs.Runs.{Finished, finished, runOf}
+use Rattle.text.specs.Runs.{finished, runOf}
 use Rattle.text.specs.Putting.{Putting, putting}
 
 module _ (capture out : List ℕ) where

@@ -1,28 +1,26 @@
 -- The loop over a capture: what stands in the buffer so far, with the text of what is left put behind it, is the whole text.
 -- Assumes nothing.
-use Prim.Native.Nat.{ℕ, zero, suc, _+_, _-_, _≤_, _<_}
+use Prim.Native.Nat.{ℕ, _+_, _-_, _≤_, _<_}
 use native.Mathlib.Omega.{arith}
-use native.Mathlib.Nat.{zero-add, add-assoc}
+use native.Mathlib.Nat.{zero-add}
 use mathlib.Core.Path.{_≡_, refl, sym, ap, subst, _∙_}
 use mathlib.Core.Bool.{Bool, true, false, cond}
-use mathlib.Core.List.{List, [], _∷_, _++_, append-assoc, append-nil}
+use mathlib.Core.List.{List, [], _++_, append-assoc, append-nil}
 use lib.Dec.{leb, ltb}
 use lib.ListN.{length, take, drop, replicate, length-append, length-drop, length-replicate}
 use lib.Seq.{sets, length-sets}
 use borrow.Author.Tests.{leb-false, lt-leb, ltb-true, ltb-false, eq-eqb, ne-eqb}
 use Rattle.octets.proofs.Runs.{past as put-past, joined}
 use Rattle.rules.proofs.Bools.{split}
-use Rattle.session.specs.declared.Session.{Session}
 use Rattle.table.specs.Table.{absent, emptied}
 use Rattle.step.specs.Stepping.{tableOf}
 use Rattle.capture.specs.Records.{nextIn}
-use Rattle.feed.specs.declared.Fed.{Fed}
 use Rattle.feed.specs.declared.Feeding.{Feeding}
 use Rattle.feed.specs.Feeding.{isWhole, Flow, feedOf}
 use Rattle.meaning.specs.Histories.{History, start}
 use Rattle.text.specs.declared.Count.{Count}
 use Rattle.text.specs.Text.{Parsed, parsed, linesAfter, cut, ending, textAfter}
-use Rattle.text.specs.Putting.{counted, Putting, putting, emptyTable, rewound}
+use Rattle.text.specs.Putting.{Putting, putting, emptyTable, rewound}
 use Rattle.text.proofs.Parsing.{whole-size, parsed-none}
 use Rattle.text.proofs.Reached.{Reached, reached-start}
 use Rattle.text.proofs.Feeds.{Went, feed-went, feed-took}

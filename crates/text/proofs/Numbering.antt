@@ -2,19 +2,18 @@
 -- Assumes nothing.
 use Prim.Native.Nat.{ℕ, zero, suc, _+_, _*_, _-_, _≤_, _<_, _^_}
 use native.Mathlib.Omega.{arith}
-use mathlib.Core.Path.{_≡_, refl, ap, _∙_}
-use mathlib.Core.Bool.{Bool, true, false}
+use mathlib.Core.Path.{_≡_, refl, ap}
 use mathlib.Core.List.{List, [], _∷_, _++_}
 use lib.ListN.{length, drop, length-drop}
 use borrow.Author.Tests.{lt-ltb}
 use Rattle.rules.specs.Calls.{Call}
 use Rattle.rules.proofs.Bools.{split}
-use Rattle.capture.specs.Records.{headerFits, nextIn}
+use Rattle.capture.specs.Records.{nextIn}
 use Rattle.capture.specs.Lines.{line}
 use Rattle.feed.specs.Feeding.{isWhole, sizeOf, numbered}
 use Rattle.meaning.specs.Histories.{History, start, after}
 use Rattle.meaning.specs.Answers.{says}
-use Rattle.text.specs.Text.{Parsed, parsedBy, parsed, linesAfter}
+use Rattle.text.specs.Text.{parsedBy, parsed, linesAfter}
 use Rattle.text.proofs.Parsing.{whole-size, by-whole, by-none}
 
 -- the lines, each with the number one above that of the last

@@ -1,20 +1,19 @@
 -- The records of a capture one behind the other: one more record, and octets that come behind a whole one change nothing of it.
 -- Assumes nothing.
-use Prim.Native.Nat.{ℕ, zero, suc, _+_, _-_, _≤_, _<_}
+use Prim.Native.Nat.{ℕ, zero, suc, _+_, _-_, _≤_}
 use native.Mathlib.Omega.{arith}
 use mathlib.Core.Path.{_≡_, refl, sym, ap, _∙_}
-use mathlib.Core.Bool.{Bool, true, false, cond}
+use mathlib.Core.Bool.{true, false}
 use mathlib.Core.List.{List, [], _∷_, _++_}
 use lib.Dec.{eqb, ltb}
-use lib.ListN.{length, getD, take, drop, length-drop, length-append, List·getD-append}
+use lib.ListN.{length, take, drop, length-drop, length-append, List·getD-append}
 use lib.Seq.{drop-append-le, take-append-le}
 use borrow.Author.Tests.{ltb-false, le-ltb, ne-eqb}
 use Rattle.octets.specs.Numbers.{numberAt}
 use Rattle.rules.proofs.Bools.{split, no-way}
 use Rattle.capture.specs.declared.Record.{Record}
-use Rattle.capture.specs.declared.Next.{Next}
-use Rattle.capture.specs.declared.Next.the-variants.{Whole, Broken, Short, End}
-use Rattle.capture.specs.Records.{recordIn, bodyIn, isBroken, nextOf, nextIn, callOf, callIn}
+use Rattle.capture.specs.declared.Next.the-variants.{Whole}
+use Rattle.capture.specs.Records.{recordIn, isBroken, nextOf, nextIn, callIn}
 use Rattle.feed.specs.Feeding.{isWhole, sizeOf}
 use Rattle.text.specs.Text.{Parsed, parsedBy, parsed}
 

@@ -1,7 +1,6 @@
 -- A history and the table that the same calls leave, from a row of 64 made empty. By demand 3 the table answers what the rules paper says after that history.
 -- Assumes nothing.
-use Prim.Native.Nat.{ℕ}
-use mathlib.Core.Path.{_≡_, refl, sym, ap, subst, _∙_}
+use mathlib.Core.Path.{_≡_, refl, ap, subst, _∙_}
 use mathlib.Core.List.{List, [], _∷_, _++_}
 use lib.ListN.{length}
 use Rattle.rules.specs.Calls.{Call, Said}

@@ -8,7 +8,7 @@ use mathlib.Core.Path.{_≡_, sym, ap, _∙_}
 use mathlib.Core.List.{List}
 use borrow.Author.Tests.{ne-eqb}
 use Rattle.octets.specs.Writing.{Written}
-use Rattle.text.specs.Runs.{Finished, finished}
+use Rattle.text.specs.Runs.{finished}
 
 -- written, and refused
 used : (a : ℕ) (o : List ℕ) (w : Written) → a ≡ 0 → record { answer = a; buffer = o } ≡ w

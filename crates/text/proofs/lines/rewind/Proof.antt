@@ -1,6 +1,5 @@
 -- `text::rewind` meets its contract.
 -- Assumes nothing.
-use borrow.Author.Needs.{needs}
 use Rattle.text.proofs.lines.rewind.Statement.{statement}
 use Rattle.text.proofs.lines.rewind.Tie as tie
 use mathlib.Core.Path.{refl}
