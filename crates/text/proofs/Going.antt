@@ -25,34 +25,46 @@ use Rattle.text.proofs.Parsing.{whole-size, parsed-none}
 use Rattle.text.proofs.Reached.{Reached, reached-start}
 use Rattle.text.proofs.Feeds.{Went, feed-went, feed-took}
 
--- the text so far fits: what is left of it, from the history reached, comes behind
-pub record Going (capture text out₀ out : List ℕ) (t : Feeding) (at : ℕ) : Type 0 where
+-- the text of a capture behind its header
+abbrev text : List ℕ → List ℕ
+text capture = textAfter start 0 (drop 8 capture)
+
+-- the text so far fits: what is left of it, after the history reached, comes behind
+pub record Going (capture out₀ out : List ℕ) (t : Feeding) (at : ℕ) : Type 0 where
   pub past : History
   pub reached : Reached past (tableOf (t .row) (t .fed .head))
   pub rows : length (t .row) ≡ 64
-  pub put : sets out at (textAfter past (t .fed .number) (drop (t .fed .used) capture)) ≡ sets out₀ 0 text
-  pub octets : at + length (textAfter past (t .fed .number) (drop (t .fed .used) capture)) ≡ length text
+  pub put : sets out at (textAfter past (t .fed .number) (drop (t .fed .used) capture)) ≡ sets out₀ 0 (text capture)
+  pub octets : at + length (textAfter past (t .fed .number) (drop (t .fed .used) capture)) ≡ length (text capture)
 
 -- it does not: the buffer is full
-pub record Over (text out₀ out : List ℕ) (room at : ℕ) : Type 0 where
+pub record Over (capture out₀ out : List ℕ) (room at : ℕ) : Type 0 where
   pub none : at ≡ 0
-  pub longer : room < length text
-  pub full : out ≡ sets out₀ 0 text
+  pub longer : room < length (text capture)
+  pub full : out ≡ sets out₀ 0 (text capture)
 
-abbrev pub State : Bool → (capture text out₀ out : List ℕ) → ℕ → Feeding → ℕ → Type 0
-State true capture text out₀ out room t at = Going capture text out₀ out t at
-State false capture text out₀ out room t at = Over text out₀ out room at
+abbrev pub State : Bool → (capture out₀ out : List ℕ) → ℕ → Feeding → ℕ → Type 0
+State true capture out₀ out room t at = Going capture out₀ out t at
+State false capture out₀ out room t at = Over capture out₀ out room at
+
+-- what holds before and after each turn
+pub record Invariant (capture out₀ out : List ℕ) (room : ℕ) (t : Feeding) (c : Count) : Type 0 where
+  pub state : State (c .fits) capture out₀ out room t (c .octets)
+  pub same-length : length out ≡ length out₀
 
 -- nothing put, and all to come
-pub begins : (capture out : List ℕ) → Going capture (textAfter start 0 (drop 8 capture)) out out (emptyTable 8) 0
+pub begins : (capture out : List ℕ) (room : ℕ) → Invariant capture out out room (emptyTable 8) (record { fits = true; octets = 0 })
 unfolding emptyTable emptied
-begins capture out =
+begins capture out room =
     record {
-      past = start;
-      reached = reached-start (replicate 64 absent) (length-replicate 64 absent);
-      rows = length-replicate 64 absent;
-      put = refl;
-      octets = zero-add (length (textAfter start 0 (drop 8 capture)));
+      state = record {
+        past = start;
+        reached = reached-start (replicate 64 absent) (length-replicate 64 absent);
+        rows = length-replicate 64 absent;
+        put = refl;
+        octets = zero-add (length (text capture));
+      };
+      same-length = refl;
     }
 
 -- nothing is left exactly where all octets are used
@@ -69,23 +81,27 @@ text-parts : (h g : History) (m n : ℕ) (s r part : List ℕ) → linesAfter h 
 unfolding textAfter
 text-parts h g m n s r part l e = rw (l, e) (append-assoc part (linesAfter g n (parsed r .calls)) (ending (parsed r .rest)))
 
-module _ (capture text out₀ out : List ℕ) (room : ℕ) (t : Feeding) (at : ℕ) (b : Bool) (fits : b ≡ true) (state : State b capture text out₀ out room t at)
-    (within : length out ≤ room) where
-  abbrev g : Going capture text out₀ out t at
-  g = subst (λ (a : Bool). State a capture text out₀ out room t at) fits state
+module _ {capture out₀ out : List ℕ} {room : ℕ} {t : Feeding} {c : Count} (i : Invariant capture out₀ out room t c) (fits : c .fits ≡ true)
+    (within : length out₀ ≤ room) where
+  abbrev at : ℕ
+  at = c .octets
 
+  abbrev g : Going capture out₀ out t at
+  g = subst (λ (b : Bool). State b capture out₀ out room t at) fits (i .state)
+
+  -- a part put, by whether it fits
   module _ (part : List ℕ) (u : Feeding) (past : History) (r : Reached past (tableOf (u .row) (u .fed .head))) (k : length (u .row) ≡ 64)
       (e : textAfter (g .past) (t .fed .number) (drop (t .fed .used) capture) ≡ part ++ textAfter past (u .fed .number) (drop (u .fed .used) capture)) where
     abbrev left : List ℕ
     left = textAfter past (u .fed .number) (drop (u .fed .used) capture)
 
-    all : sets (sets out at part) (at + length part) left ≡ sets out₀ 0 text
+    all : sets (sets out at part) (at + length part) left ≡ sets out₀ 0 (text capture)
     all = sym (joined part left out at) ∙ ap (sets out at) (sym e) ∙ g .put
 
-    count : at + length part + length left ≡ length text
+    count : at + length part + length left ≡ length (text capture)
     count = omega (arith, g .octets, ap length e, length-append part left)
 
-    put-on : State (leb (at + length part) room) capture text out₀ (sets out at part) room u (cond (leb (at + length part) room) (at + length part) 0)
+    put-on : State (leb (at + length part) room) capture out₀ (sets out at part) room u (cond (leb (at + length part) room) (at + length part) 0)
     put-on =
         split (leb (at + length part) room)
         (λ f. rw f (record { past = past; reached = r; rows = k; put = all; octets = count }))
@@ -95,15 +111,19 @@ module _ (capture text out₀ out : List ℕ) (room : ℕ) (t : Feeding) (at : �
         (record {
           none = refl;
           longer = omega (arith, over, count);
-          full = sym (put-past left (sets out at part) (at + length part) (omega (arith, over, length-sets out at part))) ∙ all;
+          full = sym (put-past left (sets out at part) (at + length part) (omega (arith, over, i .same-length, length-sets out at part))) ∙ all;
         }))
 
-    put-on-as : (c : Count) (out′ : List ℕ) → record { count = c; out = out′ } ≡ putting out at room part → State (c .fits) capture text out₀ out′ room u (c .octets)
+    put-on-as : (d : Count) (out′ : List ℕ) → record { count = d; out = out′ } ≡ putting out at room part → Invariant capture out₀ out′ room u d
     unfolding putting
-    put-on-as c out′ p = subst (λ (q : Putting). State (q .count .fits) capture text out₀ (q .out) room u (q .count .octets)) (sym p) put-on
+    put-on-as d out′ p =
+        record {
+          state = subst (λ (q : Putting). State (q .count .fits) capture out₀ (q .out) room u (q .count .octets)) (sym p) put-on;
+          same-length = ap (λ (q : Putting). length (q .out)) p ∙ length-sets out at part ∙ i .same-length;
+        }
 
-  -- a feed, and its lines put
-  module _ (v : Feeding) (rewind : v ≡ rewound t) (u : Feeding) (lines : List ℕ)
+  -- a feed of the rewound table
+  module _ {v : Feeding} (rewind : v ≡ rewound t) (u : Feeding) (lines : List ℕ)
       (feed : record { row = u .row; fed = u .fed; out = lines } ≡ feedOf (v .row) (v .fed) capture (replicate 160 0)) where
     fed : record { row = u .row; fed = u .fed; out = lines } ≡ feedOf (rewound t .row) (rewound t .fed) capture (replicate 160 0)
     fed = feed ∙ ap (λ (w : Feeding). feedOf (w .row) (w .fed) capture (replicate 160 0)) rewind
@@ -129,41 +149,39 @@ module _ (capture text out₀ out : List ℕ) (room : ℕ) (t : Feeding) (at : �
         let r = append-nil (drop (u .fed .used) capture) in
         text-parts (g .past) (went .past) (t .fed .number) (u .fed .number) _ _ (went .lines) (rw (s, r) at (went .text [])) (rw (s, r) at (went .rest []))
 
-    pub turn : (c : Count) (out′ : List ℕ) → record { count = c; out = out′ } ≡ putting out at room (take (u .fed .written) lines)
-        → State (c .fits) capture text out₀ out′ room u (c .octets)
-    turn c out′ p =
-        put-on-as (went .lines) u (went .past) (went .reached) (went .rows ∙ g .rows) left-behind c out′ (p ∙ ap (putting out at room) part-is)
+    -- put, they leave the invariant
+    pub turn : (d : Count) (out′ : List ℕ) → record { count = d; out = out′ } ≡ putting out at room (take (u .fed .written) lines)
+        → Invariant capture out₀ out′ room u d
+    turn d out′ p =
+        put-on-as (went .lines) u (went .past) (went .reached) (went .rows ∙ g .rows) left-behind d out′ (p ∙ ap (putting out at room) part-is)
 
-    pub turn-uses : isWhole (nextIn (drop (t .fed .used) capture)) ≡ true → (t .fed .used < length capture) × (t .fed .used < u .fed .used)
+    -- where a whole record stood next, octets are used
+    pub turn-uses : isWhole (nextIn (drop (t .fed .used) capture)) ≡ true → length capture - u .fed .used < length capture - t .fed .used
     unfolding rewound
     turn-uses w =
         let some = whole-size (drop (t .fed .used) capture) w in
         let far = feed-took (t .row) (rewound t .fed) capture (replicate 160 0) (g .past) (g .reached) (g .rows) (omega arith) w in
-        (omega (arith, some .0, some .1, length-drop (t .fed .used) capture), omega (arith, far, ap (λ (y : Flow). y .fed .used) fed))
+        omega (arith, some .0, some .1, length-drop (t .fed .used) capture, far, ap (λ (y : Flow). y .fed .used) fed)
 
-  -- ---- the end
+  -- no whole record stands next: what is left says how it ends
   module _ (w : isWhole (nextIn (drop (t .fed .used) capture)) ≡ false) where
     last : textAfter (g .past) (t .fed .number) (drop (t .fed .used) capture) ≡ cond (ltb (t .fed .used) (length capture)) cut []
     unfolding textAfter linesAfter
-    last = ap (λ (p : Parsed). linesAfter (g .past) (t .fed .number) (p .calls) ++ ending (p .rest)) (parsed-none (drop (t .fed .used) capture) w) ∙ ending-is capture (t .fed .used)
+    last =
+        ap (λ (p : Parsed). linesAfter (g .past) (t .fed .number) (p .calls) ++ ending (p .rest)) (parsed-none (drop (t .fed .used) capture) w)
+        ∙ ending-is capture (t .fed .used)
 
-    pub ends : (c : Count) (out′ : List ℕ) → record { count = c; out = out′ } ≡ putting out at room (cond (ltb (t .fed .used) (length capture)) cut [])
-        → record { count = c; out = out′ } ≡ putting out₀ 0 room text
+    pub ends : (d : Count) (out′ : List ℕ) → record { count = d; out = out′ } ≡ putting out at room (cond (ltb (t .fed .used) (length capture)) cut [])
+        → record { count = d; out = out′ } ≡ putting out₀ 0 room (text capture)
     unfolding putting
-    ends c out′ p = p ∙ rw (sym last, g .put, g .octets, zero-add)
+    ends d out′ p = p ∙ rw (sym last, g .put, g .octets, zero-add)
 
 -- stopped where the text does not fit
-pub stopped : (capture text out₀ out : List ℕ) (room : ℕ) (t : Feeding) (c : Count) → c .fits ≡ false → State (c .fits) capture text out₀ out room t (c .octets)
-    → record { count = c; out = out } ≡ putting out₀ 0 room text
+pub stopped : {capture out₀ out : List ℕ} {room : ℕ} {t : Feeding} {c : Count} → Invariant capture out₀ out room t c → c .fits ≡ false
+    → record { count = c; out = out } ≡ putting out₀ 0 room (text capture)
 unfolding putting
-stopped capture text out₀ out room t c f s =
-    let o : Over text out₀ out room (c .octets) = subst (λ (b : Bool). State b capture text out₀ out room t (c .octets)) f s in
-    rw (zero-add, lt-leb (length text) room (o .longer), ← o .full)
+stopped {capture} {out₀} {out} {room} {t} {c} i f =
+    let o : Over capture out₀ out room (c .octets) = subst (λ (b : Bool). State b capture out₀ out room t (c .octets)) f (i .state) in
+    rw (zero-add, lt-leb (length (text capture)) room (o .longer), ← o .full)
     (ap (λ (b : Bool). record { count = record { fits = b; octets = c .octets }; out = out }) f
     ∙ ap (λ (n : ℕ). record { count = record { fits = false; octets = n }; out = out }) (o .none))
-
--- a buffer keeps its length
-pub put-length : (out : List ℕ) (at room : ℕ) (part : List ℕ) (c : Count) (out′ : List ℕ) → record { count = c; out = out′ } ≡ putting out at room part
-    → length out′ ≡ length out
-unfolding putting
-put-length out at room part c out′ p = ap (λ (q : Putting). length (q .out)) p ∙ length-sets out at part

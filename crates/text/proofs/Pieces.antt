@@ -120,8 +120,10 @@ module _ (row : List Session) (k : length row ≡ 64) (ps : List Piece) where
 pub cut-anyhow : (row other : List Session) → length row ≡ 64 → length other ≡ 64 → (ps qs : List Piece) → joined ps ≡ joined qs
     → isWhole (nextIn (fedPieces (beginning row) ps .left)) ≡ false → isWhole (nextIn (fedPieces (beginning other) qs .left)) ≡ false
     → (fedPieces (beginning row) ps .text ≡ fedPieces (beginning other) qs .text) × (fedPieces (beginning row) ps .left ≡ fedPieces (beginning other) qs .left)
-cut-anyhow row other k l ps qs e p q =
-    (all-lines row k ps p ∙ ap (λ (s : List ℕ). linesAfter start 0 (parsed s .calls)) e ∙ sym (all-lines other l qs q), left-over row k ps p ∙ ap (λ (s : List ℕ). parsed s .rest) e ∙ sym (left-over other l qs q))
+cut-anyhow row other k l ps qs e p q = (
+  all-lines row k ps p ∙ ap (λ (s : List ℕ). linesAfter start 0 (parsed s .calls)) e ∙ sym (all-lines other l qs q),
+  left-over row k ps p ∙ ap (λ (s : List ℕ). parsed s .rest) e ∙ sym (left-over other l qs q),
+)
 
 -- and it is the text that `run` gives for the whole capture
 pub pieces-run : (capture : List ℕ) → headerFits capture ≡ true → (row : List Session) → length row ≡ 64 → (ps : List Piece) → joined ps ≡ drop 8 capture
