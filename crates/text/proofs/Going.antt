@@ -25,6 +25,10 @@ use Rattle.text.proofs.Parsing.{whole-size, parsed-none}
 use Rattle.text.proofs.Reached.{Reached, reached-start}
 use Rattle.text.proofs.Feeds.{Went, feed-went, feed-took}
 
+-- the array that lines are fed into
+abbrev scratch : List ℕ
+scratch = replicate 4096 0
+
 -- the text of a capture behind its header
 abbrev text : List ℕ → List ℕ
 text capture = textAfter start 0 (drop 8 capture)
@@ -124,15 +128,15 @@ module _ {capture out₀ out : List ℕ} {room : ℕ} {t : Feeding} {c : Count} 
 
   -- a feed of the rewound table
   module _ {v : Feeding} (rewind : v ≡ rewound t) (u : Feeding) (lines : List ℕ)
-      (feed : record { row = u .row; fed = u .fed; out = lines } ≡ feedOf (v .row) (v .fed) capture (replicate 160 0)) where
-    fed : record { row = u .row; fed = u .fed; out = lines } ≡ feedOf (rewound t .row) (rewound t .fed) capture (replicate 160 0)
-    fed = feed ∙ ap (λ (w : Feeding). feedOf (w .row) (w .fed) capture (replicate 160 0)) rewind
+      (feed : record { row = u .row; fed = u .fed; out = lines } ≡ feedOf (v .row) (v .fed) capture (scratch)) where
+    fed : record { row = u .row; fed = u .fed; out = lines } ≡ feedOf (rewound t .row) (rewound t .fed) capture (scratch)
+    fed = feed ∙ ap (λ (w : Feeding). feedOf (w .row) (w .fed) capture (scratch)) rewind
 
-    went : Went capture (g .past) (record { row = t .row; fed = rewound t .fed; out = replicate 160 0 }) (record { row = u .row; fed = u .fed; out = lines })
+    went : Went capture (g .past) (record { row = t .row; fed = rewound t .fed; out = scratch }) (record { row = u .row; fed = u .fed; out = lines })
     unfolding rewound
     went =
-        subst (Went capture (g .past) (record { row = t .row; fed = rewound t .fed; out = replicate 160 0 })) (sym fed)
-        (feed-went (t .row) (rewound t .fed) capture (replicate 160 0) (g .past) (g .reached) (g .rows) (omega arith))
+        subst (Went capture (g .past) (record { row = t .row; fed = rewound t .fed; out = scratch })) (sym fed)
+        (feed-went (t .row) (rewound t .fed) capture (scratch) (g .past) (g .reached) (g .rows) (omega arith))
 
     -- its lines are in the array
     pub part-within : u .fed .written ≤ length lines
@@ -160,7 +164,7 @@ module _ {capture out₀ out : List ℕ} {room : ℕ} {t : Feeding} {c : Count} 
     unfolding rewound
     turn-uses w =
         let some = whole-size (drop (t .fed .used) capture) w in
-        let far = feed-took (t .row) (rewound t .fed) capture (replicate 160 0) (g .past) (g .reached) (g .rows) (omega arith) w in
+        let far = feed-took (t .row) (rewound t .fed) capture (scratch) (g .past) (g .reached) (g .rows) (omega arith) w in
         omega (arith, some .0, some .1, length-drop (t .fed .used) capture, far, ap (λ (y : Flow). y .fed .used) fed)
 
   -- no whole record stands next: what is left says how it ends

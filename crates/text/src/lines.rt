@@ -98,7 +98,8 @@ fn put_end(out: &mut [u8], at: usize, room: usize, left: bool) -> Count
 }
 
 // All lines of a capture and how it ends, from the buffer's front on; what lies past its end is
-// dropped. It ends where the text has more octets than the room.
+// dropped. It stops where the text has more octets than the room. Many lines are fed at a time, so
+// that the table's row is not copied for every record.
 pub fn put_lines(capture: &[u8], out: &mut [u8], room: usize) -> Count
     requires { ⌜ length (now out) ≤ room ⌝ }
     ensures { λ r. ⌜ record { count = r; out = now (out .exit) } ≡ putting (now (out .entry)) 0 room (textAfter start 0 (drop 8 (now (capture .entry)))) ⌝ }
@@ -109,7 +110,7 @@ pub fn put_lines(capture: &[u8], out: &mut [u8], room: usize) -> Count
         octets: 0,
     };
     while c.fits && is_whole(next_record(capture, t.fed.used)) {
-        let mut lines = [0u8; 160];
+        let mut lines = [0u8; 4096];
         t = feed(rewind(t), capture, &mut lines);
         let n = t.fed.written;
         c = put_part(&mut *out, c.octets, room, &lines[..n]);
