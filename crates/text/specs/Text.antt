@@ -29,7 +29,8 @@ parsedBy (suc n) s =
 unfoldable pub parsed : List ℕ → Parsed
 parsed s = parsedBy (length s) s
 
--- a line for each call, of what the paper says to it after all that was called and said before; n is the number of the last record
+-- a line for each call, of what the paper says to it after all that was called and said before; n is the number of the last record. Numbers go up by one
+-- (`counted-lines`: no capture under 2^64 octets comes to the number at which they stay)
 unfoldable pub linesAfter : History → ℕ → List Call → List ℕ
 linesAfter h n [] = []
 linesAfter h n (c ∷ cs) = line (numbered n) c (says h c) ++ linesAfter (after h c (says h c)) (numbered n) cs
