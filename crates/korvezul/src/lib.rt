@@ -1,0 +1,194 @@
+// The calls that a card makes: a lent row of session records, and lent beside it the clock with the
+// set of occupied places. Each call is one step of the table; a refusal changes nothing. No call
+// asks anything of its caller.
+mod answers;
+mod requests;
+
+use answers::number;
+use answers::put_cc;
+use answers::put_cv;
+use answers::reported;
+use requests::close_request;
+use requests::first_table;
+use requests::lock_request;
+use requests::open_request;
+use requests::report_request;
+use requests::tick_request;
+use requests::unlock_request;
+use requests::write_cc_request;
+use requests::write_cv_request;
+use row::obey;
+use rules::Settings;
+use session::Session;
+use step::Outcome;
+use step::Request;
+use step::receive_request;
+use table::Head;
+ghost use mathlib.Core.Path.{_≡_};
+ghost use Rattle.rules.specs.Calls.{Tick, Open, On, Close, Lock, Unlock, Receive, ReportOn, WriteCc, WriteCv, numberOnly, writes};
+ghost use Rattle.step.specs.Stepping.{tableOf, rowStep, rowAfter};
+ghost use Rattle.korvezul.specs.Calling.{called, reportSaid, emptying};
+
+// A report's answer, numbers alone so that it can be returned to any host: 0 and the seven numbers
+// of the report, or a refusal and seven noughts.
+#[repr(C)]
+pub struct ReportAnswer {
+    pub answer: u32,
+    pub state: u8,
+    pub crossing: u8,
+    pub loss: u8,
+    pub alarm: u8,
+    pub rdi: u8,
+    pub blocked: u8,
+    pub conditions: u8,
+}
+
+// Clock and set of an empty table, and the answer.
+pub struct Begun {
+    pub head: Head,
+    pub answer: u32,
+}
+
+// Makes a row of 64 records an empty table at clock 0. The records stay as they are, and none of
+// them is looked at.
+#[no_mangle]
+pub extern "C" fn korvezul_empty(row: &[Session], head: &mut Head) -> u32
+    ensures { λ r. ⌜ record { number = r; table = tableOf (now (row .entry)) (now (head .exit)) } ≡ emptying (now (row .entry)) (now (head .entry)) ⌝ }
+{
+    let b = first_table(row.len(), *head);
+    *head = b.head;
+    b.answer
+}
+
+// The call on the row with clock and set lent beside it.
+fn obey_lent(row: &mut [Session], head: &mut Head, q: Request) -> Outcome
+    ensures { λ o. ⌜ (o ≡ rowStep (now (row .entry)) (now (head .entry)) q .outcome) × ((now (row .exit) ≡ rowAfter (now (row .entry)) (now (head .entry)) q) × (now (head .exit) ≡ rowStep (now (row .entry)) (now (head .entry)) q .outcome .head)) ⌝ }
+{
+    let o = obey(row, *head, q);
+    *head = o.head;
+    o
+}
+
+// The clock moves on.
+#[no_mangle]
+pub extern "C" fn korvezul_tick(row: &mut [Session], head: &mut Head, reading: u64) -> u32
+    ensures { λ r. ⌜ record { said = numberOnly (Tick reading) r; table = tableOf (now (row .exit)) (now (head .exit)) } ≡ called (tableOf (now (row .entry)) (now (head .entry))) (Tick reading) ⌝ }
+{
+    let q = tick_request(reading);
+    let o = obey_lent(row, head, q);
+    number(o)
+}
+
+// A new session, in the lowest free place.
+#[no_mangle]
+pub extern "C" fn korvezul_open(
+    row: &mut [Session],
+    head: &mut Head,
+    settings: Settings,
+    reading: u64,
+) -> u32
+    ensures { λ r. ⌜ record { said = numberOnly (Open settings reading) r; table = tableOf (now (row .exit)) (now (head .exit)) } ≡ called (tableOf (now (row .entry)) (now (head .entry))) (Open settings reading) ⌝ }
+{
+    let q = open_request(settings, reading);
+    let o = obey_lent(row, head, q);
+    number(o)
+}
+
+// The session of a label is given up.
+#[no_mangle]
+pub extern "C" fn korvezul_close(
+    row: &mut [Session],
+    head: &mut Head,
+    label: u32,
+    reading: u64,
+) -> u32
+    ensures { λ r. ⌜ record { said = numberOnly (On label (Close reading)) r; table = tableOf (now (row .exit)) (now (head .exit)) } ≡ called (tableOf (now (row .entry)) (now (head .entry))) (On label (Close reading)) ⌝ }
+{
+    let q = close_request(label, reading);
+    let o = obey_lent(row, head, q);
+    number(o)
+}
+
+#[no_mangle]
+pub extern "C" fn korvezul_lock(
+    row: &mut [Session],
+    head: &mut Head,
+    label: u32,
+    reading: u64,
+) -> u32
+    ensures { λ r. ⌜ record { said = numberOnly (On label (Lock reading)) r; table = tableOf (now (row .exit)) (now (head .exit)) } ≡ called (tableOf (now (row .entry)) (now (head .entry))) (On label (Lock reading)) ⌝ }
+{
+    let q = lock_request(label, reading);
+    let o = obey_lent(row, head, q);
+    number(o)
+}
+
+#[no_mangle]
+pub extern "C" fn korvezul_unlock(
+    row: &mut [Session],
+    head: &mut Head,
+    label: u32,
+    reading: u64,
+) -> u32
+    ensures { λ r. ⌜ record { said = numberOnly (On label (Unlock reading)) r; table = tableOf (now (row .exit)) (now (head .exit)) } ≡ called (tableOf (now (row .entry)) (now (head .entry))) (On label (Unlock reading)) ⌝ }
+{
+    let q = unlock_request(label, reading);
+    let o = obey_lent(row, head, q);
+    number(o)
+}
+
+// A message of any bytes, received on a label.
+#[no_mangle]
+pub extern "C" fn korvezul_receive(
+    row: &mut [Session],
+    head: &mut Head,
+    label: u32,
+    message: &[u8],
+    reading: u64,
+) -> u32
+    ensures { λ r. ⌜ record { said = numberOnly (On label (Receive (now (message .entry)) reading)) r; table = tableOf (now (row .exit)) (now (head .exit)) } ≡ called (tableOf (now (row .entry)) (now (head .entry))) (On label (Receive (now (message .entry)) reading)) ⌝ }
+{
+    let q = receive_request(label, message, reading);
+    let o = obey_lent(row, head, q);
+    number(o)
+}
+
+// The report on a label, at the clock.
+#[no_mangle]
+pub extern "C" fn korvezul_report(row: &mut [Session], head: &mut Head, label: u32) -> ReportAnswer
+    ensures { λ r. ⌜ record { said = reportSaid r; table = tableOf (now (row .exit)) (now (head .exit)) } ≡ called (tableOf (now (row .entry)) (now (head .entry))) (On label ReportOn) ⌝ }
+{
+    let q = report_request(label);
+    let o = obey_lent(row, head, q);
+    reported(o)
+}
+
+// The CC of a label, at the clock, into the front of a lent buffer.
+#[no_mangle]
+pub extern "C" fn korvezul_write_cc(
+    row: &mut [Session],
+    head: &mut Head,
+    label: u32,
+    buffer: &mut [u8],
+) -> u32
+    ensures { λ r. ⌜ record { said = writes (record { answer = r; buffer = now (buffer .exit) }); table = tableOf (now (row .exit)) (now (head .exit)) } ≡ called (tableOf (now (row .entry)) (now (head .entry))) (On label (WriteCc (now (buffer .entry)))) ⌝ }
+{
+    let q = write_cc_request(label, buffer.len());
+    let o = obey_lent(row, head, q);
+    put_cc(buffer, o)
+}
+
+// The CV of a label, at the clock, into the front of a lent buffer.
+#[no_mangle]
+pub extern "C" fn korvezul_write_cv(
+    row: &mut [Session],
+    head: &mut Head,
+    label: u32,
+    buffer: &mut [u8],
+) -> u32
+    ensures { λ r. ⌜ record { said = writes (record { answer = r; buffer = now (buffer .exit) }); table = tableOf (now (row .exit)) (now (head .exit)) } ≡ called (tableOf (now (row .entry)) (now (head .entry))) (On label (WriteCv (now (buffer .entry)))) ⌝ }
+{
+    let q = write_cv_request(label, buffer.len());
+    let o = obey_lent(row, head, q);
+    put_cv(buffer, o)
+}
