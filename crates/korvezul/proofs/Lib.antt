@@ -6,3 +6,4 @@ pub mod ThinEnd
 pub mod ThinCall
 pub mod ThinAsk
 pub mod ThinWrite
+pub mod Messages

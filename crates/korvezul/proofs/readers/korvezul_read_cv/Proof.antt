@@ -1,0 +1,17 @@
+-- `korvezul::korvezul_read_cv` meets its contract.
+-- Assumes nothing.
+use borrow.Author.Needs.{needs}
+use mathlib.Core.Path.{_∙_}
+use Rattle.korvezul.proofs.readers.korvezul_read_cv.Statement.{statement}
+use Rattle.korvezul.proofs.readers.korvezul_read_cv.Tie as tie
+
+pub korvezul-read-cv-spec : {M : Type 1} → statement M
+korvezul-read-cv-spec =
+    tie.close
+    (tie.spec
+    (λ c κs. search needs)
+    (λ c. search needs)
+    (λ c. search needs)
+    (λ c κs. search needs)
+    (λ c κs. search needs)
+    (λ c. c .cv-read .ensures ∙ rw (c .before .read-cv .ensures, c .before .before .get-u8 .ensures)))

@@ -1,0 +1,103 @@
+-- The fields of a message in numbers alone: a mark is 0 or 1.
+-- Assumes nothing.
+use Prim.Native.Nat.{ℕ}
+use mathlib.Core.Bool.{cond}
+use lib.Dec.{eqb, leb}
+use Rattle.octets.specs.Choice.{need, bitOf}
+use Rattle.bfd.specs.declared.Packet.{Packet}
+use Rattle.fault.specs.declared.Fault.{Fault}
+use Rattle.fault.specs.declared.IfId.{IfId}
+use Rattle.fault.specs.declared.IfId.the-variants.{Absent as NoIfId, Present as AnIfId}
+use Rattle.fault.specs.declared.GlobalId.{GlobalId}
+use Rattle.fault.specs.declared.GlobalId.the-variants.{Absent as NoGlobalId, Present as AGlobalId}
+use Rattle.rules.specs.Conditions.{keyOf}
+use Rattle.korvezul.specs.declared.fields.PacketFields.{PacketFields}
+use Rattle.korvezul.specs.declared.fields.FaultFields.{FaultFields}
+use Rattle.korvezul.specs.declared.fields.GlobalFields.{GlobalFields}
+
+abbrev pub packetFields : Packet → PacketFields
+packetFields p =
+    record {
+      my = p .my;
+      your = p .your;
+      transmit = p .transmit;
+      receive = p .receive;
+      echo = p .echo;
+      diagnostic = p .diagnostic;
+      state = p .state;
+      multiplier = p .multiplier;
+      poll = bitOf (p .poll);
+      fin = bitOf (p .fin);
+      independent = bitOf (p .independent);
+      demand = bitOf (p .demand);
+    }
+
+abbrev pub packetFrom : PacketFields → Packet
+packetFrom f =
+    record {
+      diagnostic = f .diagnostic;
+      state = f .state;
+      poll = eqb (f .poll) 1;
+      fin = eqb (f .fin) 1;
+      independent = eqb (f .independent) 1;
+      demand = eqb (f .demand) 1;
+      multiplier = f .multiplier;
+      my = f .my;
+      your = f .your;
+      transmit = f .transmit;
+      receive = f .receive;
+      echo = f .echo;
+    }
+
+-- refusal 10 for a mark above 1: P, F, C, D
+unfoldable pub packetMarks : PacketFields → ℕ
+packetMarks f =
+    need (leb (f .poll) 1) 10
+    (need (leb (f .fin) 1) 10
+    (need (leb (f .independent) 1) 10
+    (need (leb (f .demand) 1) 10 0)))
+
+-- a Global_ID with its mark; an absent one is 0
+abbrev pub globalFields : GlobalId → GlobalFields
+globalFields NoGlobalId = record { present = 0; global = 0 }
+globalFields (AGlobalId global) = record { present = 1; global = global }
+
+-- the IF_ID with its mark is that of the condition's key; an absent one is 0
+abbrev pub faultFields : Fault → FaultFields
+faultFields f =
+    record {
+      node = keyOf f .node;
+      interface = keyOf f .interface;
+      global = globalFields (f .global) .global;
+      kind = f .kind;
+      link = bitOf (f .link);
+      removed = bitOf (f .removed);
+      refresh = f .refresh;
+      ifid = keyOf f .present;
+      globalid = globalFields (f .global) .present;
+    }
+
+abbrev pub ifIdFrom : ℕ → ℕ → ℕ → IfId
+ifIdFrom present node interface = cond (eqb present 1) (AnIfId node interface) NoIfId
+
+abbrev pub globalIdFrom : ℕ → ℕ → GlobalId
+globalIdFrom present global = cond (eqb present 1) (AGlobalId global) NoGlobalId
+
+abbrev pub faultFrom : FaultFields → Fault
+faultFrom f =
+    record {
+      kind = f .kind;
+      link = eqb (f .link) 1;
+      removed = eqb (f .removed) 1;
+      refresh = f .refresh;
+      interface = ifIdFrom (f .ifid) (f .node) (f .interface);
+      global = globalIdFrom (f .globalid) (f .global);
+    }
+
+-- refusal 10 for a mark above 1: L, R, IF_ID, Global_ID
+unfoldable pub faultMarks : FaultFields → ℕ
+faultMarks f =
+    need (leb (f .link) 1) 10
+    (need (leb (f .removed) 1) 10
+    (need (leb (f .ifid) 1) 10
+    (need (leb (f .globalid) 1) 10 0)))

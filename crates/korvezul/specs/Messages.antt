@@ -1,0 +1,53 @@
+-- What the exported readers and writers of messages answer: one record of numbers, and the lent buffer afterwards.
+-- Assumes nothing.
+use Prim.Native.Nat.{ℕ}
+use Rattle.octets.specs.Choice.{Answer, accepted, refused, orElse}
+use Rattle.bfd.specs.declared.Packet.{Packet}
+use Rattle.bfd.specs.Octets.{ccFieldRefusal}
+use Rattle.cv.specs.declared.MepId.{MepId}
+use Rattle.cv.specs.declared.Verification.{Verification}
+use Rattle.cv.specs.Cv.{cvFieldRefusal}
+use Rattle.fault.specs.declared.Fault.{Fault}
+use Rattle.fault.specs.Octets.{fieldRefusal}
+use Rattle.korvezul.specs.declared.fields.PacketFields.{PacketFields}
+use Rattle.korvezul.specs.declared.fields.FaultFields.{FaultFields}
+use Rattle.korvezul.specs.declared.readers.CcRead.{CcRead}
+use Rattle.korvezul.specs.declared.readers.CvRead.{CvRead}
+use Rattle.korvezul.specs.declared.readers.FaultRead.{FaultRead}
+use Rattle.korvezul.specs.Fields.{packetFields, packetFrom, packetMarks, faultFields, faultFrom, faultMarks}
+
+-- the noughts beside a refusal
+abbrev pub noPacket : PacketFields
+noPacket =
+    record { my = 0; your = 0; transmit = 0; receive = 0; echo = 0; diagnostic = 0; state = 0; multiplier = 0; poll = 0; fin = 0; independent = 0; demand = 0 }
+
+abbrev pub noMep : MepId
+noMep = record { kind = 0; global = 0; node = 0; local = 0 }
+
+abbrev pub noFault : FaultFields
+noFault =
+    record { node = 0; interface = 0; global = 0; kind = 0; link = 0; removed = 0; refresh = 0; ifid = 0; globalid = 0 }
+
+-- what the reader of a CC says: 0 and the fields, or the refusal's number alone
+abbrev pub ccRead : Answer Packet → CcRead
+ccRead (accepted p) = record { answer = 0; packet = packetFields p }
+ccRead (refused n) = record { answer = n; packet = noPacket }
+
+-- the same for a CV, with the place in the message from which its MEP-ID part stands, type to end, in 16 octets
+abbrev pub cvRead : ℕ → Answer Verification → CvRead
+cvRead part (accepted v) = record { answer = 0; part = part; packet = packetFields (v .packet); mep = v .mep }
+cvRead part (refused n) = record { answer = n; part = 0; packet = noPacket; mep = noMep }
+
+abbrev pub faultRead : Answer Fault → FaultRead
+faultRead (accepted f) = record { answer = 0; fault = faultFields f }
+faultRead (refused n) = record { answer = n; fault = noFault }
+
+-- refusal 10 of fields in numbers: a mark above 1, or what the writer of the message refuses
+abbrev pub ccWriteRefusal : PacketFields → ℕ
+ccWriteRefusal f = orElse (packetMarks f) (ccFieldRefusal (packetFrom f))
+
+abbrev pub cvWriteRefusal : PacketFields → MepId → ℕ
+cvWriteRefusal f id = orElse (packetMarks f) (cvFieldRefusal (packetFrom f) id)
+
+abbrev pub faultWriteRefusal : FaultFields → ℕ
+faultWriteRefusal f = orElse (faultMarks f) (fieldRefusal (faultFrom f))

@@ -1,0 +1,179 @@
+// The readers of messages, for a host: an answer is one struct of numbers, 0 and the fields, or a
+// refusal and noughts.
+use crate::fields::FaultFields;
+use crate::fields::PacketFields;
+use crate::fields::fault_fields;
+use crate::fields::packet_fields;
+use bfd::CcAnswer;
+use cv::CvAnswer;
+use cv::MepId;
+use fault::FaultAnswer;
+ghost use mathlib.Core.Path.{_≡_};
+ghost use Rattle.bfd.specs.Packet.{said as ccSaid};
+ghost use Rattle.bfd.specs.Reception.{readCc};
+ghost use Rattle.cv.specs.Cv.{said as cvSaid, readCv, mepAt};
+ghost use Rattle.fault.specs.Message.{said as faultSaid, readFault};
+ghost use Rattle.korvezul.specs.Messages.{noPacket, noMep, noFault, ccRead, cvRead, faultRead};
+
+#[repr(C)]
+pub struct CcRead {
+    pub answer: u32,
+    pub packet: PacketFields,
+}
+
+// A CV's packet and MEP-ID, and the place in the message where the 16 octets of its MEP-ID part
+// stand, type to end.
+#[repr(C)]
+pub struct CvRead {
+    pub answer: u32,
+    pub part: u32,
+    pub packet: PacketFields,
+    pub mep: MepId,
+}
+
+#[repr(C)]
+pub struct FaultRead {
+    pub answer: u32,
+    pub fault: FaultFields,
+}
+
+fn no_packet() -> PacketFields
+    ensures { λ r. ⌜ r ≡ noPacket ⌝ }
+{
+    PacketFields {
+        my: 0,
+        your: 0,
+        transmit: 0,
+        receive: 0,
+        echo: 0,
+        diagnostic: 0,
+        state: 0,
+        multiplier: 0,
+        poll: 0,
+        fin: 0,
+        independent: 0,
+        demand: 0,
+    }
+}
+
+fn no_mep() -> MepId
+    ensures { λ r. ⌜ r ≡ noMep ⌝ }
+{
+    MepId {
+        kind: 0,
+        global: 0,
+        node: 0,
+        local: 0,
+    }
+}
+
+fn no_fault() -> FaultFields
+    ensures { λ r. ⌜ r ≡ noFault ⌝ }
+{
+    FaultFields {
+        node: 0,
+        interface: 0,
+        global: 0,
+        kind: 0,
+        link: 0,
+        removed: 0,
+        refresh: 0,
+        ifid: 0,
+        globalid: 0,
+    }
+}
+
+fn cc_read(a: CcAnswer) -> CcRead
+    ensures { λ r. ⌜ r ≡ ccRead (ccSaid a) ⌝ }
+{
+    match a {
+        CcAnswer::Read(p) => {
+            let f = packet_fields(p);
+            CcRead {
+                answer: 0,
+                packet: f,
+            }
+        }
+        CcAnswer::Refused(n) => {
+            let f = no_packet();
+            CcRead {
+                answer: n,
+                packet: f,
+            }
+        }
+    }
+}
+
+fn cv_read(part: u32, a: CvAnswer) -> CvRead
+    ensures { λ r. ⌜ r ≡ cvRead part (cvSaid a) ⌝ }
+{
+    match a {
+        CvAnswer::Read(v) => {
+            let p = v.packet;
+            let f = packet_fields(p);
+            let id = v.mep;
+            CvRead {
+                answer: 0,
+                part: part,
+                packet: f,
+                mep: id,
+            }
+        }
+        CvAnswer::Refused(n) => {
+            let f = no_packet();
+            let id = no_mep();
+            CvRead {
+                answer: n,
+                part: 0,
+                packet: f,
+                mep: id,
+            }
+        }
+    }
+}
+
+fn fault_read(a: FaultAnswer) -> FaultRead
+    ensures { λ r. ⌜ r ≡ faultRead (faultSaid a) ⌝ }
+{
+    match a {
+        FaultAnswer::Read(fault) => {
+            let f = fault_fields(fault);
+            FaultRead {
+                answer: 0,
+                fault: f,
+            }
+        }
+        FaultAnswer::Refused(n) => {
+            let f = no_fault();
+            FaultRead {
+                answer: n,
+                fault: f,
+            }
+        }
+    }
+}
+
+// Reads a CC.
+#[no_mangle]
+pub extern "C" fn korvezul_read_cc(message: &[u8]) -> CcRead
+    ensures { λ r. ⌜ r ≡ ccRead (readCc (now (message .entry))) ⌝ }
+{
+    cc_read(bfd::read_cc(message))
+}
+
+// Reads a CV.
+#[no_mangle]
+pub extern "C" fn korvezul_read_cv(message: &[u8]) -> CvRead
+    ensures { λ r. ⌜ r ≡ cvRead (mepAt (now (message .entry))) (readCv (now (message .entry))) ⌝ }
+{
+    let length = octets::get_u8(message, 7);
+    cv_read(4 + length as u32, cv::read_cv(message))
+}
+
+// Reads a fault message.
+#[no_mangle]
+pub extern "C" fn korvezul_read_fault(message: &[u8]) -> FaultRead
+    ensures { λ r. ⌜ r ≡ faultRead (readFault (now (message .entry))) ⌝ }
+{
+    fault_read(fault::read_fault(message))
+}
