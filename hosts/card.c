@@ -1,0 +1,267 @@
+/*
+ * A host of the library in C: two tables in one process, joined by a wire that this host can cross,
+ * cut and silence. It prints a timeline (reading, end, call, answer, what was said), which hosts/run
+ * compares with hosts/timeline.
+ */
+#include <inttypes.h>
+#include <stdio.h>
+#include <stdlib.h>
+#include <string.h>
+
+#include "korvezul.h"
+
+/* One end of the circuit: a table of its own, and the label that its session listens on. */
+struct end {
+    const char *name;
+    struct korvezul_session row[KORVEZUL_RECORDS];
+    struct korvezul_head head;
+    uint32_t label;
+};
+
+static struct end a = {.name = "A", .label = 100};
+static struct end b = {.name = "B", .label = 200};
+static uint64_t now;
+
+static void said(const struct end *e, const char *call, uint32_t label, uint32_t answer) {
+    printf("%9" PRIu64 " %s %s", now, e->name, call);
+    if (label != 0)
+        printf(" %" PRIu32, label);
+    printf(": %" PRIu32 "\n", answer);
+}
+
+static void octets(const uint8_t *o, size_t n) {
+    printf("           ");
+    for (size_t i = 0; i < n; i++)
+        printf("%02x", o[i]);
+    printf("\n");
+}
+
+static void tick(struct end *e) {
+    said(e, "tick", 0, korvezul_tick(e->row, KORVEZUL_RECORDS, &e->head, now));
+}
+
+static void report(struct end *e) {
+    static const char *const states[] = {"ADMIN DOWN", "DOWN", "INIT", "UP"};
+    struct korvezul_report r = korvezul_report(e->row, KORVEZUL_RECORDS, &e->head, e->label);
+    said(e, "report", e->label, r.answer);
+    if (r.answer == KORVEZUL_ACCEPTED)
+        printf("           %s, crossing %d, loss %d, alarm %d, RDI %d, blocked %d, conditions %d\n", states[r.state],
+               r.crossing, r.loss, r.alarm, r.rdi, r.blocked, r.conditions);
+}
+
+static void receive(struct end *e, const uint8_t *message, size_t n) {
+    said(e, "receive", e->label, korvezul_receive(e->row, KORVEZUL_RECORDS, &e->head, e->label, message, n, now));
+}
+
+/* The CC that one end is to send, heard by the other. */
+static void pass_cc(struct end *from, struct end *to) {
+    uint8_t m[KORVEZUL_CC_OCTETS];
+    uint32_t answer;
+    tick(from);
+    answer = korvezul_write_cc(from->row, KORVEZUL_RECORDS, &from->head, from->label, m, sizeof m);
+    said(from, "write CC", from->label, answer);
+    if (answer == KORVEZUL_ACCEPTED) {
+        octets(m, sizeof m);
+        receive(to, m, sizeof m);
+    }
+}
+
+/* The same for the CV of any label of the sender. */
+static void pass_cv(struct end *from, uint32_t label, struct end *to) {
+    uint8_t m[KORVEZUL_CV_OCTETS];
+    uint32_t answer;
+    tick(from);
+    answer = korvezul_write_cv(from->row, KORVEZUL_RECORDS, &from->head, label, m, sizeof m);
+    said(from, "write CV", label, answer);
+    if (answer == KORVEZUL_ACCEPTED) {
+        octets(m, sizeof m);
+        receive(to, m, sizeof m);
+    }
+}
+
+static void both(void) {
+    pass_cc(&a, &b);
+    pass_cc(&b, &a);
+}
+
+/* Once a second, both ways. */
+static void exchange(uint64_t from, uint64_t to) {
+    for (now = from; now < to; now += 1000000)
+        both();
+    now = to;
+    both();
+}
+
+static struct korvezul_mep_id lsp(uint32_t node) {
+    struct korvezul_mep_id id = {.kind = 1, .global = 7, .node = node, .local = 0x00050001};
+    return id;
+}
+
+static void open_session(struct end *e, uint32_t label, uint32_t discriminator, uint32_t own, uint32_t expected) {
+    struct korvezul_settings s = {.label = label,
+                                  .discriminator = discriminator,
+                                  .period = 1000000,
+                                  .own = lsp(own),
+                                  .expected = lsp(expected),
+                                  .link = 1,
+                                  .lock = 0};
+    said(e, "open", label, korvezul_open(e->row, KORVEZUL_RECORDS, &e->head, s, now));
+}
+
+/* AIS with link down from a node in between, refreshed every second. */
+static void ais(struct end *to) {
+    struct korvezul_fault f = {
+        .node = 30, .interface_number = 4, .global = 7, .kind = 1, .link = 1, .refresh = 1, .has_if_id = 1, .has_global_id = 1};
+    uint8_t m[KORVEZUL_FAULT_OCTETS];
+    uint32_t answer = korvezul_write_fault_message(m, sizeof m, f);
+    printf("%9" PRIu64 " AIS written: %" PRIu32 "\n", now, answer);
+    octets(m, sizeof m);
+    receive(to, m, sizeof m);
+}
+
+static void headline(const char *text) {
+    printf("-- %s\n", text);
+}
+
+static void need(int holds, const char *field) {
+    if (!holds) {
+        printf("layout: %s is not where this header has it\n", field);
+        exit(1);
+    }
+}
+
+/* Every field of a record, as the library stored it, read through the header. */
+static void check_layout(void) {
+    static struct korvezul_session row[KORVEZUL_RECORDS];
+    struct korvezul_head head;
+    struct korvezul_settings s = {0x11121, 0x21222324, 0x313233, {1, 0x41424344, 0x45464748, 0x494a4b4c},
+                                  {1, 0x51525354, 0x55565758, 0x595a5b5c}, 1, 0};
+    struct korvezul_packet p = {.my = 0x61626364, .diagnostic = 9, .state = 1, .multiplier = 5, .poll = 1};
+    struct korvezul_fault f = {0x71727374, 0x75767778, 0, 2, 1, 0, 20, 1, 0};
+    uint8_t m[KORVEZUL_CC_OCTETS], n[KORVEZUL_FAULT_OCTETS];
+    memset(row, 0xa5, sizeof row);
+    need(korvezul_empty(row, KORVEZUL_RECORDS, &head) == 0, "empty");
+    need(korvezul_open(row, KORVEZUL_RECORDS, &head, s, 0x010203) == 0, "open");
+    need(head.clock == 0x010203 && head.occupied == 1, "head");
+    need(memcmp(&row[0].settings, &s, offsetof(struct korvezul_settings, lock) + 1) == 0, "settings");
+    need(row[0].timed == 0x010203 && row[0].state == 1 && row[0].crossing == 0, "timed, state, crossing");
+    need(row[0].peer.remote == 0 && row[0].peer.multiplier == 3, "peer of a new session");
+    need(korvezul_write_cc_message(m, sizeof m, p) == 0, "CC");
+    need(korvezul_receive(row, KORVEZUL_RECORDS, &head, s.label, m, sizeof m, 0x010204) == 0, "heard CC");
+    need(row[0].timed == 0x010204 && row[0].state == 2, "timed, state of one that heard");
+    need(row[0].peer.remote == p.my && row[0].peer.multiplier == 5 && row[0].peer.diagnostic == 9 && row[0].peer.owed == 1, "peer");
+    need(korvezul_write_fault_message(n, 19, f) == 0, "LKR");
+    need(korvezul_receive(row, KORVEZUL_RECORDS, &head, s.label, n, 19, 0x010205) == 0, "taken LKR");
+    need(row[0].conditions[0].at == 0x010205 && row[0].conditions[0].refresh == 20 && row[0].conditions[0].link == 1, "condition");
+    need(row[0].conditions[0].key.node == f.node && row[0].conditions[0].key.interface_number == f.interface_number &&
+             row[0].conditions[0].key.kind == 2 && row[0].conditions[0].key.present == 1, "key");
+    need(row[0].conditions[1].key.kind == 0 && row[0].conditions[3].key.kind == 0, "empty conditions");
+    p.your = 1;
+    need(korvezul_write_cc_message(m, sizeof m, p) == 0, "crossed CC");
+    need(korvezul_receive(row, KORVEZUL_RECORDS, &head, s.label, m, sizeof m, 0x010206) == 0, "crossed CC taken");
+    need(row[0].crossed == 0x010206 && row[0].crossing == 1, "crossed, crossing");
+    need(((const unsigned char *)&row[1])[0] == 0xa5, "a record next to it");
+    printf("layout: every field is where the header has it\n");
+}
+
+/* The readers and writers of messages alone. */
+static void messages(void) {
+    static const struct korvezul_packet none;
+    uint8_t cc[KORVEZUL_CC_OCTETS], cv[KORVEZUL_CV_OCTETS + 3] = {0}, fault[KORVEZUL_FAULT_OCTETS];
+    struct korvezul_packet p = {.my = 17, .your = 34, .transmit = 1000000, .receive = 1000000, .echo = 0, .diagnostic = 3, .state = 3, .multiplier = 3, .final = 1};
+    struct korvezul_fault f = {.kind = 2, .refresh = 20, .removed = 1, .global = 9, .has_global_id = 1};
+    struct korvezul_cc_read r;
+    struct korvezul_cv_read v;
+    struct korvezul_fault_read w;
+    printf("write CC: %" PRIu32, korvezul_write_cc_message(cc, sizeof cc, p));
+    r = korvezul_read_cc(cc, sizeof cc);
+    printf(", read: %" PRIu32 ", my %" PRIu32 ", your %" PRIu32 ", state %d, diagnostic %d, F %d\n", r.answer, r.packet.my, r.packet.your, r.packet.state, r.packet.diagnostic, r.packet.final);
+    printf("write CV: %" PRIu32, korvezul_write_cv_message(cv, sizeof cv, p, lsp(20)));
+    v = korvezul_read_cv(cv, sizeof cv);
+    printf(", read: %" PRIu32 ", node %" PRIu32 ", part from octet %" PRIu32 "\n", v.answer, v.mep.node, v.part);
+    octets(cv + v.part, 16);
+    printf("write LKR: %" PRIu32, korvezul_write_fault_message(fault, sizeof fault, f));
+    w = korvezul_read_fault(fault, 15);
+    printf(", read: %" PRIu32 ", type %d, R %d, refresh %d, IF_ID %d, Global_ID %d: %" PRIu32 "\n", w.answer, w.fault.kind, w.fault.removed, w.fault.refresh, w.fault.has_if_id, w.fault.has_global_id, w.fault.global);
+    r = korvezul_read_cc(cc, 27);
+    printf("CC of 27 octets: %" PRIu32 ", and %s\n", r.answer, memcmp(&r.packet, &none, offsetof(struct korvezul_packet, demand) + 1) == 0 ? "noughts" : "something");
+    printf("CC read as a CV: %" PRIu32 "\n", korvezul_read_cv(cc, sizeof cc).answer);
+    printf("CC into 27 octets: %" PRIu32 "\n", korvezul_write_cc_message(cc, 27, p));
+    p.poll = 2;
+    printf("P of 2 written: %" PRIu32 "\n", korvezul_write_cc_message(cc, sizeof cc, p));
+}
+
+int main(void) {
+    check_layout();
+    headline("two tables made empty, a session opened in each");
+    said(&a, "empty", 0, korvezul_empty(a.row, KORVEZUL_RECORDS, &a.head));
+    said(&b, "empty", 0, korvezul_empty(b.row, KORVEZUL_RECORDS, &b.head));
+    open_session(&a, 100, 17, 10, 20);
+    open_session(&b, 200, 34, 20, 10);
+    headline("CC goes both ways until both are UP");
+    exchange(0, 2000000);
+    report(&a);
+    report(&b);
+    headline("CV goes both ways, and each end is the one expected");
+    now = 2500000;
+    pass_cv(&a, a.label, &b);
+    pass_cv(&b, b.label, &a);
+    report(&a);
+    report(&b);
+    headline("the CV of another circuit of A comes out at B: crossed, blocked, down");
+    now = 3000000;
+    open_session(&a, 101, 18, 11, 21);
+    pass_cv(&a, 101, &b);
+    report(&b);
+    headline("set right again: both come up, and B is free 3.5 seconds after the crossed message");
+    exchange(3000000, 6000000);
+    report(&b);
+    now = 6499999;
+    tick(&b);
+    report(&b);
+    now = 6500000;
+    tick(&b);
+    report(&b);
+    headline("the wire is cut: no loss at 3 periods, a loss and its alarm one microsecond later");
+    now = 9000000;
+    tick(&a);
+    report(&a);
+    now = 9000001;
+    tick(&a);
+    tick(&b);
+    report(&a);
+    report(&b);
+    headline("AIS tells A why: the alarm is held back while it stands");
+    ais(&a);
+    report(&a);
+    now = 12500000;
+    tick(&a);
+    report(&a);
+    now = 12500001;
+    tick(&a);
+    report(&a);
+    headline("the wire is whole: both come up again");
+    exchange(13000000, 15000000);
+    report(&a);
+    report(&b);
+    headline("A is locked: B hears ADMIN DOWN, and A takes no BFD message");
+    said(&a, "lock", a.label, korvezul_lock(a.row, KORVEZUL_RECORDS, &a.head, a.label, now));
+    both();
+    report(&a);
+    report(&b);
+    headline("and unlocked");
+    said(&a, "unlock", a.label, korvezul_unlock(a.row, KORVEZUL_RECORDS, &a.head, a.label, now));
+    exchange(15000000, 17000000);
+    report(&a);
+    report(&b);
+    headline("refusals");
+    now = 16999999;
+    said(&a, "close", a.label, korvezul_close(a.row, KORVEZUL_RECORDS, &a.head, a.label, now));
+    now = 17000000;
+    said(&a, "close", a.label, korvezul_close(a.row, KORVEZUL_RECORDS - 1, &a.head, a.label, now));
+    said(&a, "close", a.label, korvezul_close(a.row, KORVEZUL_RECORDS, &a.head, a.label, now));
+    report(&a);
+    headline("messages alone");
+    messages();
+    return 0;
+}

@@ -1,0 +1,448 @@
+//! A host of the library in Rust, with the same story as `card.c` and the same timeline. The calls
+//! behind `Table` are what a card would keep: each lends its own row and head, so that the borrow
+//! checker sees to what the header asks of a host.
+use std::mem::{align_of, offset_of, size_of};
+
+const RECORDS: usize = 64;
+
+#[repr(C)]
+#[derive(Clone, Copy, Default)]
+struct MepId {
+    kind: u16,
+    global: u32,
+    node: u32,
+    local: u32,
+}
+
+#[repr(C)]
+#[derive(Clone, Copy, Default)]
+struct Settings {
+    label: u32,
+    discriminator: u32,
+    period: u32,
+    own: MepId,
+    expected: MepId,
+    link: u8,
+    lock: u8,
+}
+
+#[repr(C)]
+#[derive(Clone, Copy, Default)]
+struct Key {
+    node: u32,
+    interface: u32,
+    kind: u8,
+    present: u8,
+}
+
+#[repr(C)]
+#[derive(Clone, Copy, Default)]
+struct Condition {
+    at: u64,
+    key: Key,
+    refresh: u8,
+    link: u8,
+}
+
+#[repr(C)]
+#[derive(Clone, Copy, Default)]
+struct Peer {
+    remote: u32,
+    multiplier: u8,
+    diagnostic: u8,
+    owed: u8,
+}
+
+#[repr(C)]
+#[derive(Clone, Copy, Default)]
+struct Session {
+    timed: u64,
+    crossed: u64,
+    conditions: [Condition; 4],
+    settings: Settings,
+    peer: Peer,
+    state: u8,
+    crossing: u8,
+}
+
+#[repr(C)]
+#[derive(Clone, Copy, Default)]
+struct Head {
+    clock: u64,
+    occupied: u64,
+}
+
+#[repr(C)]
+#[derive(Clone, Copy)]
+struct Report {
+    answer: u32,
+    state: u8,
+    crossing: u8,
+    loss: u8,
+    alarm: u8,
+    rdi: u8,
+    blocked: u8,
+    conditions: u8,
+}
+
+#[repr(C)]
+#[derive(Clone, Copy, Default, PartialEq)]
+struct Packet {
+    my: u32,
+    your: u32,
+    transmit: u32,
+    receive: u32,
+    echo: u32,
+    diagnostic: u8,
+    state: u8,
+    multiplier: u8,
+    poll: u8,
+    fin: u8,
+    independent: u8,
+    demand: u8,
+}
+
+#[repr(C)]
+#[derive(Clone, Copy, Default)]
+struct Fault {
+    node: u32,
+    interface: u32,
+    global: u32,
+    kind: u8,
+    link: u8,
+    removed: u8,
+    refresh: u8,
+    has_if_id: u8,
+    has_global_id: u8,
+}
+
+#[repr(C)]
+struct CcRead {
+    answer: u32,
+    packet: Packet,
+}
+
+#[repr(C)]
+struct CvRead {
+    answer: u32,
+    part: u32,
+    packet: Packet,
+    mep: MepId,
+}
+
+#[repr(C)]
+struct FaultRead {
+    answer: u32,
+    fault: Fault,
+}
+
+// The layout that the library was compiled with.
+const _: () = {
+    assert!(size_of::<Session>() == 176 && align_of::<Session>() == 8 && offset_of!(Session, settings) == 112);
+    assert!(offset_of!(Session, peer) == 160 && offset_of!(Session, state) == 168 && size_of::<Settings>() == 48);
+    assert!(size_of::<Condition>() == 24 && offset_of!(Condition, refresh) == 20 && size_of::<Head>() == 16);
+    assert!(size_of::<Report>() == 12 && size_of::<Packet>() == 28 && size_of::<Fault>() == 20);
+    assert!(size_of::<CcRead>() == 32 && size_of::<CvRead>() == 52 && size_of::<FaultRead>() == 24);
+    assert!(offset_of!(CvRead, mep) == 36 && offset_of!(CcRead, packet) == 4 && offset_of!(CvRead, packet) == 8);
+};
+
+extern "C" {
+    fn korvezul_empty(row: *const Session, records: usize, head: *mut Head) -> u32;
+    fn korvezul_open(row: *mut Session, records: usize, head: *mut Head, settings: Settings, reading: u64) -> u32;
+    fn korvezul_close(row: *mut Session, records: usize, head: *mut Head, label: u32, reading: u64) -> u32;
+    fn korvezul_lock(row: *mut Session, records: usize, head: *mut Head, label: u32, reading: u64) -> u32;
+    fn korvezul_unlock(row: *mut Session, records: usize, head: *mut Head, label: u32, reading: u64) -> u32;
+    fn korvezul_receive(row: *mut Session, records: usize, head: *mut Head, label: u32, message: *const u8, octets: usize, reading: u64) -> u32;
+    fn korvezul_tick(row: *mut Session, records: usize, head: *mut Head, reading: u64) -> u32;
+    fn korvezul_report(row: *mut Session, records: usize, head: *mut Head, label: u32) -> Report;
+    fn korvezul_write_cc(row: *mut Session, records: usize, head: *mut Head, label: u32, buffer: *mut u8, size: usize) -> u32;
+    fn korvezul_write_cv(row: *mut Session, records: usize, head: *mut Head, label: u32, buffer: *mut u8, size: usize) -> u32;
+    fn korvezul_read_cc(message: *const u8, octets: usize) -> CcRead;
+    fn korvezul_read_cv(message: *const u8, octets: usize) -> CvRead;
+    fn korvezul_read_fault(message: *const u8, octets: usize) -> FaultRead;
+    fn korvezul_write_cc_message(buffer: *mut u8, size: usize, packet: Packet) -> u32;
+    fn korvezul_write_cv_message(buffer: *mut u8, size: usize, packet: Packet, mep: MepId) -> u32;
+    fn korvezul_write_fault_message(buffer: *mut u8, size: usize, fault: Fault) -> u32;
+}
+
+/// A table. A slice or an array is never null and is aligned, and what is borrowed apart is apart:
+/// that is all that the calls ask.
+struct Table {
+    row: [Session; RECORDS],
+    head: Head,
+}
+
+impl Table {
+    fn new() -> Table {
+        Table { row: [Session::default(); RECORDS], head: Head::default() }
+    }
+    fn empty(&mut self) -> u32 {
+        unsafe { korvezul_empty(self.row.as_ptr(), RECORDS, &mut self.head) }
+    }
+    fn open(&mut self, settings: Settings, reading: u64) -> u32 {
+        unsafe { korvezul_open(self.row.as_mut_ptr(), RECORDS, &mut self.head, settings, reading) }
+    }
+    /// Close, of the first records of the row.
+    fn close(&mut self, records: usize, label: u32, reading: u64) -> u32 {
+        let row = &mut self.row[..records];
+        unsafe { korvezul_close(row.as_mut_ptr(), row.len(), &mut self.head, label, reading) }
+    }
+    fn lock(&mut self, label: u32, reading: u64) -> u32 {
+        unsafe { korvezul_lock(self.row.as_mut_ptr(), RECORDS, &mut self.head, label, reading) }
+    }
+    fn unlock(&mut self, label: u32, reading: u64) -> u32 {
+        unsafe { korvezul_unlock(self.row.as_mut_ptr(), RECORDS, &mut self.head, label, reading) }
+    }
+    fn receive(&mut self, label: u32, message: &[u8], reading: u64) -> u32 {
+        unsafe { korvezul_receive(self.row.as_mut_ptr(), RECORDS, &mut self.head, label, message.as_ptr(), message.len(), reading) }
+    }
+    fn tick(&mut self, reading: u64) -> u32 {
+        unsafe { korvezul_tick(self.row.as_mut_ptr(), RECORDS, &mut self.head, reading) }
+    }
+    fn report(&mut self, label: u32) -> Report {
+        unsafe { korvezul_report(self.row.as_mut_ptr(), RECORDS, &mut self.head, label) }
+    }
+    fn write_cc(&mut self, label: u32, buffer: &mut [u8]) -> u32 {
+        unsafe { korvezul_write_cc(self.row.as_mut_ptr(), RECORDS, &mut self.head, label, buffer.as_mut_ptr(), buffer.len()) }
+    }
+    fn write_cv(&mut self, label: u32, buffer: &mut [u8]) -> u32 {
+        unsafe { korvezul_write_cv(self.row.as_mut_ptr(), RECORDS, &mut self.head, label, buffer.as_mut_ptr(), buffer.len()) }
+    }
+}
+
+fn read_cc(message: &[u8]) -> CcRead {
+    unsafe { korvezul_read_cc(message.as_ptr(), message.len()) }
+}
+
+fn read_cv(message: &[u8]) -> CvRead {
+    unsafe { korvezul_read_cv(message.as_ptr(), message.len()) }
+}
+
+fn read_fault(message: &[u8]) -> FaultRead {
+    unsafe { korvezul_read_fault(message.as_ptr(), message.len()) }
+}
+
+fn write_cc_message(buffer: &mut [u8], packet: Packet) -> u32 {
+    unsafe { korvezul_write_cc_message(buffer.as_mut_ptr(), buffer.len(), packet) }
+}
+
+fn write_cv_message(buffer: &mut [u8], packet: Packet, mep: MepId) -> u32 {
+    unsafe { korvezul_write_cv_message(buffer.as_mut_ptr(), buffer.len(), packet, mep) }
+}
+
+fn write_fault_message(buffer: &mut [u8], fault: Fault) -> u32 {
+    unsafe { korvezul_write_fault_message(buffer.as_mut_ptr(), buffer.len(), fault) }
+}
+
+/// One end of the circuit.
+struct End {
+    name: char,
+    table: Table,
+    label: u32,
+}
+
+impl End {
+    fn said(&self, now: u64, call: &str, answer: u32) {
+        println!("{now:9} {} {call}: {answer}", self.name);
+    }
+    fn open(&mut self, now: u64, label: u32, discriminator: u32, own: u32, expected: u32) {
+        let settings = Settings { label, discriminator, period: 1000000, own: lsp(own), expected: lsp(expected), link: 1, lock: 0 };
+        let answer = self.table.open(settings, now);
+        self.said(now, &format!("open {label}"), answer);
+    }
+    fn tick(&mut self, now: u64) {
+        let answer = self.table.tick(now);
+        self.said(now, "tick", answer);
+    }
+    fn report(&mut self, now: u64) {
+        let r = self.table.report(self.label);
+        self.said(now, &format!("report {}", self.label), r.answer);
+        if r.answer == 0 {
+            let state = ["ADMIN DOWN", "DOWN", "INIT", "UP"][r.state as usize];
+            println!(
+                "           {state}, crossing {}, loss {}, alarm {}, RDI {}, blocked {}, conditions {}",
+                r.crossing, r.loss, r.alarm, r.rdi, r.blocked, r.conditions
+            );
+        }
+    }
+    fn receive(&mut self, now: u64, message: &[u8]) {
+        let answer = self.table.receive(self.label, message, now);
+        self.said(now, &format!("receive {}", self.label), answer);
+    }
+}
+
+fn octets(o: &[u8]) {
+    println!("           {}", o.iter().map(|x| format!("{x:02x}")).collect::<String>());
+}
+
+/// The CC that one end is to send, heard by the other.
+fn pass_cc(now: u64, from: &mut End, to: &mut End) {
+    let mut m = [0; 28];
+    from.tick(now);
+    let answer = from.table.write_cc(from.label, &mut m);
+    from.said(now, &format!("write CC {}", from.label), answer);
+    if answer == 0 {
+        octets(&m);
+        to.receive(now, &m);
+    }
+}
+
+/// The same for the CV of any label of the sender.
+fn pass_cv(now: u64, from: &mut End, label: u32, to: &mut End) {
+    let mut m = [0; 44];
+    from.tick(now);
+    let answer = from.table.write_cv(label, &mut m);
+    from.said(now, &format!("write CV {label}"), answer);
+    if answer == 0 {
+        octets(&m);
+        to.receive(now, &m);
+    }
+}
+
+fn both(now: u64, a: &mut End, b: &mut End) {
+    pass_cc(now, a, b);
+    pass_cc(now, b, a);
+}
+
+/// Once a second, both ways.
+fn exchange(from: u64, to: u64, a: &mut End, b: &mut End) {
+    for now in (from..=to).step_by(1000000) {
+        both(now, a, b);
+    }
+}
+
+fn lsp(node: u32) -> MepId {
+    MepId { kind: 1, global: 7, node, local: 0x00050001 }
+}
+
+/// AIS with link down from a node in between, refreshed every second.
+fn ais(now: u64, to: &mut End) {
+    let f = Fault { node: 30, interface: 4, global: 7, kind: 1, link: 1, removed: 0, refresh: 1, has_if_id: 1, has_global_id: 1 };
+    let mut m = [0; 25];
+    println!("{now:9} AIS written: {}", write_fault_message(&mut m, f));
+    octets(&m);
+    to.receive(now, &m);
+}
+
+/// Every field of a record, as the library stored it, read through the declarations above.
+fn check_layout() {
+    let mut t = Table::new();
+    let own = MepId { kind: 1, global: 0x41424344, node: 0x45464748, local: 0x494a4b4c };
+    let expected = MepId { kind: 1, global: 0x51525354, node: 0x55565758, local: 0x595a5b5c };
+    let s = Settings { label: 0x11121, discriminator: 0x21222324, period: 0x313233, own, expected, link: 1, lock: 0 };
+    assert_eq!((t.empty(), t.open(s, 0x010203)), (0, 0));
+    let mut p = Packet { my: 0x61626364, diagnostic: 9, state: 1, multiplier: 5, poll: 1, ..Packet::default() };
+    let (mut cc, mut lkr) = ([0; 28], [0; 19]);
+    assert_eq!((write_cc_message(&mut cc, p), t.receive(s.label, &cc, 0x010204)), (0, 0));
+    let f = Fault { node: 0x71727374, interface: 0x75767778, kind: 2, link: 1, refresh: 20, has_if_id: 1, ..Fault::default() };
+    assert_eq!((write_fault_message(&mut lkr, f), t.receive(s.label, &lkr, 0x010205)), (0, 0));
+    p.your = 1;
+    assert_eq!((write_cc_message(&mut cc, p), t.receive(s.label, &cc, 0x010206)), (0, 0));
+    let (r, c) = (t.row[0], t.row[0].conditions[0]);
+    assert_eq!((t.head.clock, t.head.occupied, r.timed, r.crossed, r.state, r.crossing), (0x010206, 1, 0x010204, 0x010206, 2, 1));
+    assert_eq!((r.peer.remote, r.peer.multiplier, r.peer.diagnostic, r.peer.owed), (p.my, 5, 9, 1));
+    assert_eq!((c.at, c.key.node, c.key.interface, c.key.kind, c.key.present, c.refresh, c.link), (0x010205, f.node, f.interface, 2, 1, 20, 1));
+    assert_eq!((r.settings.label, r.settings.discriminator, r.settings.period, r.settings.link, r.settings.lock), (s.label, s.discriminator, s.period, 1, 0));
+    for (x, y) in [(r.settings.own, own), (r.settings.expected, expected)] {
+        assert_eq!((x.kind, x.global, x.node, x.local), (y.kind, y.global, y.node, y.local));
+    }
+    println!("layout: every field is where the header has it");
+}
+
+/// The readers and writers of messages alone.
+fn messages() {
+    let (mut cc, mut cv, mut fault) = ([0; 28], [0; 47], [0; 25]);
+    let mut p = Packet { my: 17, your: 34, transmit: 1000000, receive: 1000000, diagnostic: 3, state: 3, multiplier: 3, fin: 1, ..Packet::default() };
+    let f = Fault { kind: 2, refresh: 20, removed: 1, global: 9, has_global_id: 1, ..Fault::default() };
+    print!("write CC: {}", write_cc_message(&mut cc, p));
+    let r = read_cc(&cc);
+    println!(", read: {}, my {}, your {}, state {}, diagnostic {}, F {}", r.answer, r.packet.my, r.packet.your, r.packet.state, r.packet.diagnostic, r.packet.fin);
+    print!("write CV: {}", write_cv_message(&mut cv, p, lsp(20)));
+    let v = read_cv(&cv);
+    assert!(v.packet == p);
+    println!(", read: {}, node {}, part from octet {}", v.answer, v.mep.node, v.part);
+    octets(&cv[v.part as usize..v.part as usize + 16]);
+    print!("write LKR: {}", write_fault_message(&mut fault, f));
+    let w = read_fault(&fault[..15]);
+    println!(
+        ", read: {}, type {}, R {}, refresh {}, IF_ID {}, Global_ID {}: {}",
+        w.answer, w.fault.kind, w.fault.removed, w.fault.refresh, w.fault.has_if_id, w.fault.has_global_id, w.fault.global
+    );
+    let r = read_cc(&cc[..27]);
+    println!("CC of 27 octets: {}, and {}", r.answer, if r.packet == Packet::default() { "noughts" } else { "something" });
+    println!("CC read as a CV: {}", read_cv(&cc).answer);
+    println!("CC into 27 octets: {}", write_cc_message(&mut cc[..27], p));
+    p.poll = 2;
+    println!("P of 2 written: {}", write_cc_message(&mut cc, p));
+}
+
+fn main() {
+    check_layout();
+    let mut a = End { name: 'A', table: Table::new(), label: 100 };
+    let mut b = End { name: 'B', table: Table::new(), label: 200 };
+    println!("-- two tables made empty, a session opened in each");
+    for e in [&mut a, &mut b] {
+        let answer = e.table.empty();
+        e.said(0, "empty", answer);
+    }
+    a.open(0, 100, 17, 10, 20);
+    b.open(0, 200, 34, 20, 10);
+    println!("-- CC goes both ways until both are UP");
+    exchange(0, 2000000, &mut a, &mut b);
+    a.report(2000000);
+    b.report(2000000);
+    println!("-- CV goes both ways, and each end is the one expected");
+    pass_cv(2500000, &mut a, 100, &mut b);
+    pass_cv(2500000, &mut b, 200, &mut a);
+    a.report(2500000);
+    b.report(2500000);
+    println!("-- the CV of another circuit of A comes out at B: crossed, blocked, down");
+    a.open(3000000, 101, 18, 11, 21);
+    pass_cv(3000000, &mut a, 101, &mut b);
+    b.report(3000000);
+    println!("-- set right again: both come up, and B is free 3.5 seconds after the crossed message");
+    exchange(3000000, 6000000, &mut a, &mut b);
+    b.report(6000000);
+    for now in [6499999, 6500000] {
+        b.tick(now);
+        b.report(now);
+    }
+    println!("-- the wire is cut: no loss at 3 periods, a loss and its alarm one microsecond later");
+    a.tick(9000000);
+    a.report(9000000);
+    a.tick(9000001);
+    b.tick(9000001);
+    a.report(9000001);
+    b.report(9000001);
+    println!("-- AIS tells A why: the alarm is held back while it stands");
+    ais(9000001, &mut a);
+    a.report(9000001);
+    for now in [12500000, 12500001] {
+        a.tick(now);
+        a.report(now);
+    }
+    println!("-- the wire is whole: both come up again");
+    exchange(13000000, 15000000, &mut a, &mut b);
+    a.report(15000000);
+    b.report(15000000);
+    println!("-- A is locked: B hears ADMIN DOWN, and A takes no BFD message");
+    let answer = a.table.lock(100, 15000000);
+    a.said(15000000, "lock 100", answer);
+    both(15000000, &mut a, &mut b);
+    a.report(15000000);
+    b.report(15000000);
+    println!("-- and unlocked");
+    let answer = a.table.unlock(100, 15000000);
+    a.said(15000000, "unlock 100", answer);
+    exchange(15000000, 17000000, &mut a, &mut b);
+    a.report(17000000);
+    b.report(17000000);
+    println!("-- refusals");
+    for (now, records) in [(16999999, RECORDS), (17000000, RECORDS - 1), (17000000, RECORDS)] {
+        let answer = a.table.close(records, 100, now);
+        a.said(now, "close 100", answer);
+    }
+    a.report(17000000);
+    println!("-- messages alone");
+    messages();
+}

@@ -1,0 +1,321 @@
+/*
+ * Korvezul: MPLS-TP connectivity monitoring (BFD CC and CV, AIS, LKR) for a line card.
+ *
+ * C99; also C++. Link libkorvezul.a, which needs memcpy and memset and nothing else.
+ *
+ * Memory. The library allocates nothing and has no state of its own. A table is the host's: a row
+ * of 64 session records and one head (the clock, and the set of occupied places), both lent for the
+ * length of a call and never kept. Messages and buffers are lent the same way. Calls on different
+ * tables may run at the same time; on one table nobody else may read or write row or head during a
+ * call. What one call is lent must not overlap: row, head, message and buffer are apart. A pointer
+ * is never null and is aligned for its type, also beside a length of 0.
+ *
+ * Time. A reading is the host's clock in microseconds. It may not run backwards (answer 1) and is
+ * at most 9,223,372,036,854,775,807. Report and write speak at the reading of the last accepted
+ * call that brought one: tick first to have them speak of now.
+ *
+ * Answers. 0 is accepted. Anything else is a refusal, and then no byte of row, head or buffer has
+ * changed. Every call on a table is answered KORVEZUL_TABLE, before anything else, if what was
+ * lent is not a table: nothing else is asked of the host, and no input can make a call fail
+ * otherwise.
+ */
+#ifndef KORVEZUL_H
+#define KORVEZUL_H
+
+#include <stddef.h>
+#include <stdint.h>
+
+#ifdef __cplusplus
+extern "C" {
+#endif
+
+/* The records of a row, and the octets of the messages that a session writes. */
+#define KORVEZUL_RECORDS 64
+#define KORVEZUL_CC_OCTETS 28
+#define KORVEZUL_CV_OCTETS 44
+/* The longest plain fault message. */
+#define KORVEZUL_FAULT_OCTETS 25
+
+enum korvezul_answer {
+    KORVEZUL_ACCEPTED = 0,
+    KORVEZUL_READING = 1,     /* the reading is below the clock, or above the greatest */
+    KORVEZUL_NO_SESSION = 2,  /* no open session has this label */
+    KORVEZUL_SHORT = 3,       /* the message is shorter than its layout needs */
+    KORVEZUL_HEADER = 4,      /* its first nibble is not 1, or its G-ACh version not 0 */
+    KORVEZUL_CHANNEL = 5,     /* its channel is not CC, CV or fault (a reader of one kind: not that one) */
+    KORVEZUL_BFD = 6,         /* a BFD reception rule is broken */
+    KORVEZUL_MEP_ID = 7,      /* the MEP-ID's type is not 0 or 1, or its length not 12 */
+    KORVEZUL_FAULT = 8,       /* a field or a TLV of a fault message is wrong */
+    KORVEZUL_CONDITIONS = 9,  /* a new condition, and four already stand */
+    KORVEZUL_RANGE = 10,      /* a setting or a field to write is out of range, or would not be read */
+    KORVEZUL_TAKEN = 11,      /* the label or the local discriminator is already open */
+    KORVEZUL_FULL = 12,       /* all 64 places are open */
+    KORVEZUL_BUFFER = 13,     /* the lent buffer is too short */
+    KORVEZUL_LOCKED = 14,     /* a BFD message for a locked session */
+    KORVEZUL_TABLE = 26       /* not 64 records, or an open record that no call can have left */
+};
+
+enum korvezul_state {
+    KORVEZUL_ADMIN_DOWN = 0,  /* locked */
+    KORVEZUL_DOWN = 1,
+    KORVEZUL_INIT = 2,
+    KORVEZUL_UP = 3
+};
+
+/* A maintenance end point. kind 0, Section: Global_ID, Node, Interface. kind 1, LSP: Global_ID,
+ * Node, and in `local` the Tunnel number (high 16 bits) and the LSP number (low 16 bits). */
+struct korvezul_mep_id {
+    uint16_t kind;
+    uint32_t global;
+    uint32_t node;
+    uint32_t local;
+};
+
+/* What a session is opened with: label 16 to 1,048,575; a local discriminator, not 0; the period in
+ * microseconds, 1,000 to 10,000,000; the own and the expected MEP-ID, of one kind, 0 or 1; and the
+ * marks "follow link-down" and "follow lock", 0 or 1. */
+struct korvezul_settings {
+    uint32_t label;
+    uint32_t discriminator;
+    uint32_t period;
+    struct korvezul_mep_id own;
+    struct korvezul_mep_id expected;
+    uint8_t link;
+    uint8_t lock;
+};
+
+/* The record of a session. It is the host's memory and the library's content: read a session with
+ * korvezul_report, and copy or keep rows and heads as they are. */
+struct korvezul_key {
+    uint32_t node;
+    uint32_t interface_number;
+    uint8_t kind;
+    uint8_t present;
+};
+
+struct korvezul_condition {
+    uint64_t at;
+    struct korvezul_key key;
+    uint8_t refresh;
+    uint8_t link;
+};
+
+struct korvezul_peer {
+    uint32_t remote;
+    uint8_t multiplier;
+    uint8_t diagnostic;
+    uint8_t owed;
+};
+
+struct korvezul_session {
+    uint64_t timed;
+    uint64_t crossed;
+    struct korvezul_condition conditions[4];
+    struct korvezul_settings settings;
+    struct korvezul_peer peer;
+    uint8_t state;
+    uint8_t crossing;
+};
+
+/* What is lent beside a row. Bit i of `occupied` is set while record i is an open session. */
+struct korvezul_head {
+    uint64_t clock;
+    uint64_t occupied;
+};
+
+/* A report: 0 and seven numbers, or a refusal and seven noughts. `state` is a korvezul_state,
+ * `conditions` a count up to 4, the others are 0 or 1. Traffic is to be blocked while `blocked` is
+ * 1. A held-back alarm is loss 1 and alarm 0. */
+struct korvezul_report {
+    uint32_t answer;
+    uint8_t state;
+    uint8_t crossing;
+    uint8_t loss;
+    uint8_t alarm;
+    uint8_t rdi;
+    uint8_t blocked;
+    uint8_t conditions;
+};
+
+/* The fields of a BFD control packet; intervals in microseconds; P, F, C and D are 0 or 1. */
+struct korvezul_packet {
+    uint32_t my;
+    uint32_t your;
+    uint32_t transmit;
+    uint32_t receive;
+    uint32_t echo;
+    uint8_t diagnostic;
+    uint8_t state;
+    uint8_t multiplier;
+    uint8_t poll;
+    uint8_t final;
+    uint8_t independent;
+    uint8_t demand;
+};
+
+/* The fields of a fault message: kind 1 AIS, 2 LKR; the flags L (link) and R (removed) 0 or 1;
+ * refresh 1 to 20 seconds; and 1 or 0 for an IF_ID and a Global_ID that are there or not. Numbers
+ * behind a 0 are 0 when read and are not looked at when written. */
+struct korvezul_fault {
+    uint32_t node;
+    uint32_t interface_number;
+    uint32_t global;
+    uint8_t kind;
+    uint8_t link;
+    uint8_t removed;
+    uint8_t refresh;
+    uint8_t has_if_id;
+    uint8_t has_global_id;
+};
+
+/* What a reader answers: 0 and the fields, or a refusal and noughts. Octets behind a message are
+ * padding and are ignored. */
+struct korvezul_cc_read {
+    uint32_t answer;
+    struct korvezul_packet packet;
+};
+
+/* The MEP-ID part of an accepted CV, type to end, is the 16 octets of the message from `part` on. */
+struct korvezul_cv_read {
+    uint32_t answer;
+    uint32_t part;
+    struct korvezul_packet packet;
+    struct korvezul_mep_id mep;
+};
+
+struct korvezul_fault_read {
+    uint32_t answer;
+    struct korvezul_fault fault;
+};
+
+/* The table. `records` is the number of records of the row: 64, or the answer is KORVEZUL_TABLE. */
+
+/* Makes a row an empty table at clock 0. The records are not looked at and may hold anything. */
+uint32_t korvezul_empty(const struct korvezul_session *row, size_t records, struct korvezul_head *head);
+
+/* Opens a session in the lowest free place. 26, 1, 10, 11, 12. */
+uint32_t korvezul_open(struct korvezul_session *row, size_t records, struct korvezul_head *head,
+                       struct korvezul_settings settings, uint64_t reading);
+
+/* Gives the session of a label up. 26, 1, 2. */
+uint32_t korvezul_close(struct korvezul_session *row, size_t records, struct korvezul_head *head,
+                        uint32_t label, uint64_t reading);
+
+/* Locks a session (ADMIN DOWN), or unlocks it. Doing either twice is accepted. 26, 1, 2. */
+uint32_t korvezul_lock(struct korvezul_session *row, size_t records, struct korvezul_head *head,
+                       uint32_t label, uint64_t reading);
+uint32_t korvezul_unlock(struct korvezul_session *row, size_t records, struct korvezul_head *head,
+                         uint32_t label, uint64_t reading);
+
+/* A message of any octets, from the G-ACh header on, that came in on a label.
+ * 26, 1, 2, 3, 4, 5; then of BFD 3, 6, 3, 7, 14; of a fault message 3, 8, 3, 8, 9. */
+uint32_t korvezul_receive(struct korvezul_session *row, size_t records, struct korvezul_head *head,
+                          uint32_t label, const uint8_t *message, size_t octets, uint64_t reading);
+
+/* The clock moves on. 26, 1. */
+uint32_t korvezul_tick(struct korvezul_session *row, size_t records, struct korvezul_head *head,
+                       uint64_t reading);
+
+/* The report on a label at the clock. Nothing changes. 26, 2. */
+struct korvezul_report korvezul_report(struct korvezul_session *row, size_t records,
+                                       struct korvezul_head *head, uint32_t label);
+
+/* Writes the CC (28 octets) or the CV (44) that the session of a label is to send, at the clock, to
+ * the front of a buffer of `size` octets; what lies behind is not touched. 26, 2, 13. */
+uint32_t korvezul_write_cc(struct korvezul_session *row, size_t records, struct korvezul_head *head,
+                           uint32_t label, uint8_t *buffer, size_t size);
+uint32_t korvezul_write_cv(struct korvezul_session *row, size_t records, struct korvezul_head *head,
+                           uint32_t label, uint8_t *buffer, size_t size);
+
+/* Messages alone, without a table. */
+
+struct korvezul_cc_read korvezul_read_cc(const uint8_t *message, size_t octets);
+struct korvezul_cv_read korvezul_read_cv(const uint8_t *message, size_t octets);
+struct korvezul_fault_read korvezul_read_fault(const uint8_t *message, size_t octets);
+
+/* Plain messages from their fields: 28 octets, 44 octets, and 9, 15, 19 or 25. 10, 13. */
+uint32_t korvezul_write_cc_message(uint8_t *buffer, size_t size, struct korvezul_packet packet);
+uint32_t korvezul_write_cv_message(uint8_t *buffer, size_t size, struct korvezul_packet packet,
+                                   struct korvezul_mep_id mep);
+uint32_t korvezul_write_fault_message(uint8_t *buffer, size_t size, struct korvezul_fault fault);
+
+/* The layout that the library was compiled with, held against this compiler's: a size or a place
+ * that differs is an array of -1 elements. */
+#define KORVEZUL_CHECK(name, test) typedef char korvezul_check_##name[(test) ? 1 : -1]
+#define KORVEZUL_PLACE(type, field, place) \
+    KORVEZUL_CHECK(type##_##field, offsetof(struct korvezul_##type, field) == (place))
+#define KORVEZUL_SIZE(type, size) KORVEZUL_CHECK(type##_size, sizeof(struct korvezul_##type) == (size))
+#define KORVEZUL_ALIGNED(type, to) \
+    struct korvezul_aligned_##type { \
+        char octet; \
+        struct korvezul_##type value; \
+    }; \
+    KORVEZUL_CHECK(type##_alignment, offsetof(struct korvezul_aligned_##type, value) == (to))
+
+KORVEZUL_SIZE(mep_id, 16);
+KORVEZUL_ALIGNED(mep_id, 4);
+KORVEZUL_PLACE(mep_id, global, 4);
+KORVEZUL_PLACE(mep_id, node, 8);
+KORVEZUL_PLACE(mep_id, local, 12);
+KORVEZUL_SIZE(settings, 48);
+KORVEZUL_ALIGNED(settings, 4);
+KORVEZUL_PLACE(settings, discriminator, 4);
+KORVEZUL_PLACE(settings, period, 8);
+KORVEZUL_PLACE(settings, own, 12);
+KORVEZUL_PLACE(settings, expected, 28);
+KORVEZUL_PLACE(settings, link, 44);
+KORVEZUL_PLACE(settings, lock, 45);
+KORVEZUL_SIZE(key, 12);
+KORVEZUL_PLACE(key, interface_number, 4);
+KORVEZUL_PLACE(key, kind, 8);
+KORVEZUL_PLACE(key, present, 9);
+KORVEZUL_SIZE(condition, 24);
+KORVEZUL_ALIGNED(condition, 8);
+KORVEZUL_PLACE(condition, key, 8);
+KORVEZUL_PLACE(condition, refresh, 20);
+KORVEZUL_PLACE(condition, link, 21);
+KORVEZUL_SIZE(peer, 8);
+KORVEZUL_PLACE(peer, multiplier, 4);
+KORVEZUL_PLACE(peer, diagnostic, 5);
+KORVEZUL_PLACE(peer, owed, 6);
+KORVEZUL_SIZE(session, 176);
+KORVEZUL_ALIGNED(session, 8);
+KORVEZUL_PLACE(session, crossed, 8);
+KORVEZUL_PLACE(session, conditions, 16);
+KORVEZUL_PLACE(session, settings, 112);
+KORVEZUL_PLACE(session, peer, 160);
+KORVEZUL_PLACE(session, state, 168);
+KORVEZUL_PLACE(session, crossing, 169);
+KORVEZUL_SIZE(head, 16);
+KORVEZUL_ALIGNED(head, 8);
+KORVEZUL_PLACE(head, occupied, 8);
+KORVEZUL_SIZE(report, 12);
+KORVEZUL_ALIGNED(report, 4);
+KORVEZUL_PLACE(report, state, 4);
+KORVEZUL_PLACE(report, conditions, 10);
+KORVEZUL_SIZE(packet, 28);
+KORVEZUL_ALIGNED(packet, 4);
+KORVEZUL_PLACE(packet, diagnostic, 20);
+KORVEZUL_PLACE(packet, demand, 26);
+KORVEZUL_SIZE(fault, 20);
+KORVEZUL_ALIGNED(fault, 4);
+KORVEZUL_PLACE(fault, kind, 12);
+KORVEZUL_PLACE(fault, has_global_id, 17);
+KORVEZUL_SIZE(cc_read, 32);
+KORVEZUL_PLACE(cc_read, packet, 4);
+KORVEZUL_SIZE(cv_read, 52);
+KORVEZUL_PLACE(cv_read, packet, 8);
+KORVEZUL_PLACE(cv_read, mep, 36);
+KORVEZUL_SIZE(fault_read, 24);
+KORVEZUL_PLACE(fault_read, fault, 4);
+
+#undef KORVEZUL_ALIGNED
+#undef KORVEZUL_SIZE
+#undef KORVEZUL_PLACE
+#undef KORVEZUL_CHECK
+
+#ifdef __cplusplus
+}
+#endif
+
+#endif
