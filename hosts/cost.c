@@ -1,0 +1,178 @@
+/*
+ * One call on a table of 1 or 64 open sessions, for `hosts/cost` to count: `cost CALL OPEN STATE`.
+ * STATE is `usual` (labels in a row, sessions UP, no condition) or `worst` (labels and
+ * discriminators that share one mark of the scan, four conditions standing and a crossing in each).
+ * Under valgrind the call alone is counted; without it the stack that it used is printed.
+ */
+#define _DEFAULT_SOURCE
+#include <stdio.h>
+#include <stdlib.h>
+#include <string.h>
+#include <ucontext.h>
+#include <valgrind/callgrind.h>
+
+#include "korvezul.h"
+
+#define STACK 65536
+
+static struct korvezul_session row[KORVEZUL_RECORDS];
+static struct korvezul_head head;
+static int worst;
+static uint64_t now;
+static uint32_t last; /* the label of the last place, which every scan comes to last */
+static uint8_t cc[KORVEZUL_CC_OCTETS], cv[KORVEZUL_CV_OCTETS], ais[9 + 254], buffer[KORVEZUL_CV_OCTETS];
+
+static void accepted(uint32_t answer) {
+    if (answer != 0) {
+        fprintf(stderr, "cost: answer %u\n", (unsigned)answer);
+        exit(1);
+    }
+}
+
+static uint32_t label_of(unsigned i) {
+    return worst ? 16 + 1024 * i : 100 + i;
+}
+
+static struct korvezul_settings settings_of(unsigned i) {
+    struct korvezul_settings s = {label_of(i), label_of(i), 10000000, {1, 7, 10, i}, {1, 7, 20, i}, 1, 1};
+    return s;
+}
+
+static void receive(uint32_t label, const uint8_t *m, size_t n) {
+    accepted(korvezul_receive(row, KORVEZUL_RECORDS, &head, label, m, n, now));
+}
+
+static void write_cc(uint32_t your, uint8_t state) {
+    struct korvezul_packet p = {9, your, 1000000, 1000000, 0, 0, state, 3, 1, 0, 0, 0};
+    accepted(korvezul_write_cc_message(cc, sizeof cc, p));
+}
+
+/* Sessions that came UP, and in the worst state four conditions of one type and a crossing in each. */
+static void prepare(unsigned open) {
+    accepted(korvezul_empty(row, KORVEZUL_RECORDS, &head));
+    for (unsigned i = 0; i < open; i++) {
+        accepted(korvezul_open(row, KORVEZUL_RECORDS, &head, settings_of(i), now));
+        write_cc(label_of(i), 1);
+        receive(label_of(i), cc, sizeof cc);
+        write_cc(label_of(i), 3);
+        receive(label_of(i), cc, sizeof cc);
+        for (uint32_t k = 0; worst && k < 4; k++) {
+            struct korvezul_fault f = {1, k, 0, 1, 0, 0, 20, 1, 0};
+            uint8_t m[19];
+            accepted(korvezul_write_fault_message(m, sizeof m, f));
+            receive(label_of(i), m, sizeof m);
+        }
+        if (worst) {
+            write_cc(1, 3);
+            receive(label_of(i), cc, sizeof cc);
+        }
+        last = label_of(i);
+    }
+}
+
+/* What is received: a CC, a CV, and the fault message with the most TLVs, all passed over. */
+static void messages(void) {
+    struct korvezul_packet p = {9, last, 1000000, 1000000, 0, 0, 3, 3, 1, 0, 0, 0};
+    struct korvezul_mep_id expected = {1, 7, 20, (last - label_of(0)) / (worst ? 1024 : 1)};
+    struct korvezul_fault f = {0, 0, 0, 1, 1, 1, 20, 0, 0};
+    accepted(korvezul_write_cc_message(cc, sizeof cc, p));
+    accepted(korvezul_write_cv_message(cv, sizeof cv, p, expected));
+    accepted(korvezul_write_fault_message(ais, sizeof ais, f));
+    ais[8] = 254;
+    for (int i = 9; i < 9 + 254; i += 2)
+        ais[i] = 3;
+}
+
+/* The calls, each with arguments that are accepted. */
+#define TABLE row, KORVEZUL_RECORDS, &head
+static const struct korvezul_packet packet = {9, 1, 1000000, 1000000, 0, 0, 3, 3, 1, 0, 0, 0};
+static const struct korvezul_mep_id mep = {1, 7, 20, 0};
+static const struct korvezul_fault fault = {1, 2, 3, 1, 0, 0, 20, 1, 1};
+
+static uint32_t none(void) { return 0; } /* what the counting itself costs */
+static uint32_t empty(void) { return korvezul_empty(TABLE); }
+static uint32_t tick(void) { return korvezul_tick(TABLE, now); }
+static uint32_t open_one(void) { return korvezul_open(TABLE, settings_of(63), now); }
+static uint32_t close_one(void) { return korvezul_close(TABLE, last, now); }
+static uint32_t lock(void) { return korvezul_lock(TABLE, last, now); }
+static uint32_t unlock(void) { return korvezul_unlock(TABLE, last, now); }
+static uint32_t receive_cc(void) { return korvezul_receive(TABLE, last, cc, sizeof cc, now); }
+static uint32_t receive_cv(void) { return korvezul_receive(TABLE, last, cv, sizeof cv, now); }
+static uint32_t receive_fault(void) { return korvezul_receive(TABLE, last, ais, sizeof ais, now); }
+static uint32_t report(void) { return korvezul_report(TABLE, last).answer; }
+static uint32_t cc_of_session(void) { return korvezul_write_cc(TABLE, last, buffer, sizeof buffer); }
+static uint32_t cv_of_session(void) { return korvezul_write_cv(TABLE, last, buffer, sizeof buffer); }
+static uint32_t read_cc(void) { return korvezul_read_cc(cc, sizeof cc).answer; }
+static uint32_t read_cv(void) { return korvezul_read_cv(cv, sizeof cv).answer; }
+static uint32_t read_fault(void) { return korvezul_read_fault(ais, sizeof ais).answer; }
+static uint32_t cc_message(void) { return korvezul_write_cc_message(buffer, sizeof buffer, packet); }
+static uint32_t cv_message(void) { return korvezul_write_cv_message(buffer, sizeof buffer, packet, mep); }
+static uint32_t fault_message(void) { return korvezul_write_fault_message(buffer, sizeof buffer, fault); }
+
+static const struct {
+    const char *name;
+    uint32_t (*call)(void);
+} calls[] = {{"none", none}, {"empty", empty}, {"tick", tick}, {"open", open_one}, {"close", close_one}, {"lock", lock},
+             {"unlock", unlock}, {"receive-cc", receive_cc}, {"receive-cv", receive_cv}, {"receive-fault", receive_fault},
+             {"report", report}, {"write-cc", cc_of_session}, {"write-cv", cv_of_session}, {"read-cc", read_cc},
+             {"read-cv", read_cv}, {"read-fault", read_fault}, {"write-cc-message", cc_message},
+             {"write-cv-message", cv_message}, {"write-fault-message", fault_message}};
+
+static uint32_t (*measured)(void);
+
+static void choose(const char *name) {
+    for (size_t i = 0; i < sizeof calls / sizeof *calls; i++)
+        if (strcmp(name, calls[i].name) == 0)
+            measured = calls[i].call;
+    if (measured == NULL)
+        exit(2);
+}
+
+/* The call on a stack of its own, painted before. */
+static ucontext_t outside, inside;
+static uint32_t answer;
+
+static void on_its_own(void) {
+    answer = measured();
+}
+
+static uint8_t stack[STACK];
+
+static size_t untouched(void) {
+    size_t n = 0;
+    while (stack[n] == 0xa5)
+        n++;
+    return n;
+}
+
+static void print_stack(void) {
+    memset(stack, 0xa5, sizeof stack);
+    getcontext(&inside);
+    inside.uc_stack.ss_sp = stack;
+    inside.uc_stack.ss_size = sizeof stack;
+    inside.uc_link = &outside;
+    makecontext(&inside, on_its_own, 0);
+    swapcontext(&outside, &inside);
+    printf("%zu\n", sizeof stack - untouched());
+}
+
+int main(int argc, char **argv) {
+    unsigned open = argc == 4 ? (unsigned)atoi(argv[2]) : 0;
+    if (open == 0 || open > KORVEZUL_RECORDS)
+        return 2;
+    choose(argv[1]);
+    worst = strcmp(argv[3], "worst") == 0;
+    /* an open that is accepted beside 63 */
+    prepare(measured == open_one && open == KORVEZUL_RECORDS ? open - 1 : open);
+    messages();
+    now = 1;
+    if (RUNNING_ON_VALGRIND) {
+        CALLGRIND_TOGGLE_COLLECT;
+        answer = measured();
+        CALLGRIND_TOGGLE_COLLECT;
+    } else {
+        print_stack();
+    }
+    accepted(answer);
+    return 0;
+}

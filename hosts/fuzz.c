@@ -1,0 +1,523 @@
+/*
+ * The library under random input. Three commands:
+ *
+ *   fuzz play < CAPTURE          plays a capture by calls, and prints what `watch` would
+ *   fuzz calls SEED N CAPTURE    makes N random calls on a table of its own, writes them as a
+ *                                capture, and prints what they answered
+ *   fuzz random SEED SECONDS     any bytes as row, set, clock, message and buffer; what must hold
+ *                                of every call is looked at after each
+ *
+ * All that is lent stands against pages that nobody may touch, so that a step too far ends the run.
+ */
+#define _DEFAULT_SOURCE
+#include <inttypes.h>
+#include <stdio.h>
+#include <stdlib.h>
+#include <string.h>
+#include <sys/mman.h>
+#include <time.h>
+
+#include "korvezul.h"
+
+#define ROW (KORVEZUL_RECORDS * sizeof(struct korvezul_session))
+#define PAGE 4096
+#define MOST 16384
+
+/* ---- memory to lend, between two pages that may not be touched */
+
+struct lender {
+    uint8_t *pages;
+};
+
+static struct lender a_lender(void) {
+    struct lender l;
+    l.pages = mmap(NULL, MOST + 2 * PAGE, PROT_NONE, MAP_PRIVATE | MAP_ANONYMOUS, -1, 0);
+    if (l.pages == MAP_FAILED || mprotect(l.pages + PAGE, MOST, PROT_READ | PROT_WRITE) != 0)
+        abort();
+    return l;
+}
+
+/* n octets that end, or that start, where the pages do. */
+static void *lend(const struct lender *l, size_t n, int at_end) {
+    return l->pages + PAGE + (at_end ? MOST - n : 0);
+}
+
+/* ---- random numbers */
+
+static uint64_t seed;
+
+static uint64_t any(void) {
+    seed ^= seed >> 12;
+    seed ^= seed << 25;
+    seed ^= seed >> 27;
+    return seed * UINT64_C(2685821657736338717);
+}
+
+static uint64_t below(uint64_t n) {
+    return (any() >> 16) % n;
+}
+
+static int once_in(uint64_t n) {
+    return below(n) == 0;
+}
+
+static void fill(void *at, size_t n) {
+    uint8_t *o = at;
+    for (size_t i = 0; i < n; i++)
+        o[i] = (uint8_t)(any() >> 32);
+}
+
+/* ---- a call with its arguments, and what it said */
+
+enum kind { TICK, OPEN, CLOSE, LOCK, UNLOCK, RECEIVE, REPORT, WRITE_CC, WRITE_CV, EMPTY, KINDS };
+
+static const char *const names[KINDS] = {"tick", "open", "close", "lock", "unlock", "receive", "report", "write CC", "write CV", "empty"};
+
+struct call {
+    enum kind kind;
+    uint64_t reading;
+    uint32_t label;
+    struct korvezul_settings settings;
+    uint8_t *octets; /* the message, or the buffer */
+    size_t size;
+};
+
+struct said {
+    uint32_t answer;
+    struct korvezul_report report;
+};
+
+static struct said make(struct korvezul_session *row, size_t n, struct korvezul_head *head, const struct call *c) {
+    struct said s;
+    memset(&s, 0, sizeof s);
+    switch (c->kind) {
+    case TICK: s.answer = korvezul_tick(row, n, head, c->reading); break;
+    case OPEN: s.answer = korvezul_open(row, n, head, c->settings, c->reading); break;
+    case CLOSE: s.answer = korvezul_close(row, n, head, c->label, c->reading); break;
+    case LOCK: s.answer = korvezul_lock(row, n, head, c->label, c->reading); break;
+    case UNLOCK: s.answer = korvezul_unlock(row, n, head, c->label, c->reading); break;
+    case RECEIVE: s.answer = korvezul_receive(row, n, head, c->label, c->octets, c->size, c->reading); break;
+    case REPORT:
+        s.report = korvezul_report(row, n, head, c->label);
+        s.answer = s.report.answer;
+        break;
+    case WRITE_CC: s.answer = korvezul_write_cc(row, n, head, c->label, c->octets, c->size); break;
+    case WRITE_CV: s.answer = korvezul_write_cv(row, n, head, c->label, c->octets, c->size); break;
+    default: s.answer = korvezul_empty(row, n, head); break;
+    }
+    return s;
+}
+
+/* The line that `watch` prints for a record. */
+static void line(uint64_t number, const struct call *c, const struct said *s) {
+    printf("%" PRIu64 " %" PRIu32, number, s->answer);
+    if (s->answer == 0 && c->kind == REPORT)
+        printf(" %d %d %d %d %d %d %d", s->report.state, s->report.crossing, s->report.loss, s->report.alarm, s->report.rdi,
+               s->report.blocked, s->report.conditions);
+    if (s->answer == 0 && (c->kind == WRITE_CC || c->kind == WRITE_CV)) {
+        printf(" ");
+        for (size_t i = 0; i < (c->kind == WRITE_CC ? KORVEZUL_CC_OCTETS : KORVEZUL_CV_OCTETS); i++)
+            printf("%02x", c->octets[i]);
+    }
+    printf("\n");
+}
+
+/* ---- captures */
+
+static uint64_t number(const uint8_t *o, int n) {
+    uint64_t x = 0;
+    while (n-- > 0)
+        x = x << 8 | *o++;
+    return x;
+}
+
+static uint8_t *put(uint8_t *o, int n, uint64_t x) {
+    for (int i = 0; i < n; i++)
+        o[i] = (uint8_t)(x >> 8 * (n - 1 - i));
+    return o + n;
+}
+
+static struct korvezul_mep_id mep_of(uint16_t kind, const uint8_t *o) {
+    struct korvezul_mep_id id = {kind, (uint32_t)number(o, 4), (uint32_t)number(o + 4, 4), (uint32_t)number(o + 8, 4)};
+    return id;
+}
+
+/* An open's body; one that does not fit has discriminator 0 and is answered 10 at the latest. */
+static struct korvezul_settings settings_of(uint32_t label, const uint8_t *body, size_t n) {
+    struct korvezul_settings s;
+    memset(&s, 0, sizeof s);
+    s.label = label;
+    if (n != 35 || body[34] > 3)
+        return s;
+    s.discriminator = (uint32_t)number(body, 4);
+    s.period = (uint32_t)number(body + 4, 4);
+    s.own = mep_of((uint16_t)number(body + 8, 2), body + 10);
+    s.expected = mep_of((uint16_t)number(body + 8, 2), body + 22);
+    s.link = body[34] & 1;
+    s.lock = body[34] >> 1;
+    return s;
+}
+
+static int play(void) {
+    struct lender rows = a_lender(), heads = a_lender(), lent = a_lender();
+    struct korvezul_session *row = lend(&rows, ROW, 1);
+    struct korvezul_head *head = lend(&heads, sizeof *head, 1);
+    uint8_t begin[16], body[2048];
+    if (fread(begin, 1, 8, stdin) != 8 || memcmp(begin, "TPO\0\1\0\0\0", 8) != 0) {
+        printf("bad header\n");
+        return 0;
+    }
+    korvezul_empty(row, KORVEZUL_RECORDS, head);
+    for (uint64_t i = 1;; i++) {
+        size_t got = fread(begin, 1, 16, stdin), size = got == 16 ? number(begin + 14, 2) : 0;
+        struct call c;
+        struct said s;
+        if (got == 0)
+            return 0;
+        if (got < 16 || number(begin + 12, 2) > 8 || size > sizeof body || fread(body, 1, size, stdin) != size) {
+            printf("cut\n");
+            return 0;
+        }
+        c.kind = (enum kind)number(begin + 12, 2);
+        c.reading = number(begin, 8);
+        c.label = (uint32_t)number(begin + 8, 4);
+        c.settings = settings_of(c.label, body, size);
+        c.size = c.kind == RECEIVE ? size : KORVEZUL_CV_OCTETS;
+        c.octets = lend(&lent, c.size, 1);
+        if (c.kind == RECEIVE)
+            memcpy(c.octets, body, size);
+        s = make(row, KORVEZUL_RECORDS, head, &c);
+        line(i, &c, &s);
+    }
+}
+
+/* ---- random calls, steered a little so that most of them mean something */
+
+static struct korvezul_mep_id some_mep(uint16_t kind) {
+    struct korvezul_mep_id id = {kind, (uint32_t)below(2), (uint32_t)below(2), 0};
+    return id;
+}
+
+/* One of 80, three of them often, so that some sessions are told much in a short time. */
+static uint32_t some_label(void) {
+    return once_in(50) ? (uint32_t)any() : 16 + (uint32_t)below(once_in(2) ? 3 : 80);
+}
+
+static struct korvezul_settings some_settings(uint32_t label) {
+    struct korvezul_settings s;
+    uint16_t kind = (uint16_t)(once_in(30) ? below(4) : below(2));
+    memset(&s, 0, sizeof s);
+    s.label = label;
+    s.discriminator = once_in(40) ? 0 : once_in(8) ? 1 + (uint32_t)below(90) : label;
+    s.period = once_in(40) ? (uint32_t)any() : once_in(2) ? 1000 : 1000000;
+    s.own = some_mep(kind);
+    s.expected = some_mep(kind);
+    s.link = (uint8_t)below(2);
+    s.lock = (uint8_t)below(2);
+    return s;
+}
+
+static uint64_t some_reading(uint64_t clock) {
+    static const uint64_t steps[] = {0, 1, 2, 2999, 3000, 3001, 3000000, 3000001, 3499999, 3500000, 7000000, 69999999, 70000000};
+    if (once_in(60))
+        return any();
+    if (once_in(60))
+        return clock - below(3);
+    return clock + (once_in(100) ? steps[below(sizeof steps / sizeof *steps)] : below(2000));
+}
+
+static struct korvezul_packet some_packet(void) {
+    struct korvezul_packet p;
+    memset(&p, 0, sizeof p);
+    p.my = once_in(20) ? 0 : 1 + (uint32_t)below(3);
+    p.your = once_in(3) ? 16 + (uint32_t)below(80) : 0;
+    p.transmit = (uint32_t)any();
+    p.receive = (uint32_t)any();
+    p.echo = (uint32_t)any();
+    p.diagnostic = (uint8_t)below(once_in(9) ? 40 : 10);
+    p.state = (uint8_t)below(once_in(9) ? 6 : 4);
+    p.multiplier = once_in(20) ? 0 : (uint8_t)(1 + below(5));
+    p.poll = (uint8_t)below(2);
+    p.final = (uint8_t)below(2);
+    p.independent = (uint8_t)below(2);
+    p.demand = (uint8_t)below(once_in(20) ? 256 : 2);
+    return p;
+}
+
+static struct korvezul_fault some_fault(void) {
+    struct korvezul_fault f;
+    memset(&f, 0, sizeof f);
+    f.node = (uint32_t)below(3);
+    f.interface_number = (uint32_t)below(2);
+    f.global = (uint32_t)any();
+    f.kind = (uint8_t)(1 + below(once_in(20) ? 3 : 2));
+    f.link = (uint8_t)below(2);
+    f.removed = (uint8_t)once_in(4);
+    f.refresh = (uint8_t)(once_in(20) ? below(256) : 1 + below(20));
+    f.has_if_id = (uint8_t)below(2);
+    f.has_global_id = (uint8_t)below(once_in(20) ? 256 : 2);
+    return f;
+}
+
+/* A plain message for a label: half of them, where there is a choice, as its peer would send it. */
+static size_t plain_message(uint8_t *o, uint32_t label) {
+    struct korvezul_packet p = some_packet();
+    if (once_in(2))
+        p.your = label;
+    switch (below(3)) {
+    case 0: return korvezul_write_cc_message(o, 128, p) == 0 ? 28 : 0;
+    case 1: return korvezul_write_cv_message(o, 128, p, some_mep((uint16_t)below(2))) == 0 ? 44 : 0;
+    default: return korvezul_write_fault_message(o, 128, some_fault()) == 0 ? 9 + o[8] : 0;
+    }
+}
+
+/* A message in at most 128 octets: random, or plain and then perhaps damaged, cut or padded. */
+static size_t some_message(uint8_t *o, uint32_t label) {
+    size_t n = 0;
+    fill(o, 128);
+    if (once_in(12))
+        return below(129);
+    while (n == 0)
+        n = plain_message(o, label);
+    if (once_in(4))
+        o[below(n)] = (uint8_t)any();
+    if (once_in(15))
+        n = below(n + 1);
+    if (once_in(6))
+        n += below(40);
+    return n;
+}
+
+/* A call on a table, its octets lent; a buffer of any size, or of one that `watch` lends. Now and
+ * then nothing is closed for a while, so that the table fills up. */
+static struct call some_call(const struct korvezul_head *head, const struct lender *lent, int as_watch) {
+    static const enum kind often[] = {TICK, OPEN, OPEN, CLOSE, LOCK, UNLOCK, RECEIVE, RECEIVE, RECEIVE, RECEIVE, RECEIVE, REPORT, REPORT, WRITE_CC, WRITE_CV};
+    static int filling;
+    uint8_t m[128];
+    struct call c;
+    memset(&c, 0, sizeof c);
+    c.kind = often[below(sizeof often / sizeof *often)];
+    if (once_in(2000))
+        filling = !filling;
+    if (c.kind == CLOSE && filling)
+        c.kind = REPORT;
+    c.label = some_label();
+    c.reading = some_reading(head->clock);
+    c.settings = some_settings(c.label);
+    if (c.kind == RECEIVE) {
+        c.size = some_message(m, c.label);
+        c.octets = lend(lent, c.size, as_watch || once_in(2));
+        memcpy(c.octets, m, c.size);
+    } else {
+        c.size = as_watch ? KORVEZUL_CV_OCTETS : below(80);
+        c.octets = lend(lent, c.size, as_watch || once_in(2));
+        fill(c.octets, c.size);
+    }
+    return c;
+}
+
+static void record(FILE *to, const struct call *c) {
+    uint8_t o[16 + 128], *body = o + 16, *end = body;
+    if (c->kind == OPEN) {
+        end = put(put(put(body, 4, c->settings.discriminator), 4, c->settings.period), 2, c->settings.own.kind);
+        end = put(put(put(end, 4, c->settings.own.global), 4, c->settings.own.node), 4, c->settings.own.local);
+        end = put(put(put(end, 4, c->settings.expected.global), 4, c->settings.expected.node), 4, c->settings.expected.local);
+        end = put(end, 1, c->settings.link + 2u * c->settings.lock);
+    }
+    if (c->kind == RECEIVE) {
+        memcpy(body, c->octets, c->size);
+        end = body + c->size;
+    }
+    put(put(put(put(o, 8, c->reading), 4, c->label), 2, c->kind), 2, (uint64_t)(end - body));
+    fwrite(o, 1, (size_t)(end - o), to);
+}
+
+static int calls(uint64_t count, const char *path) {
+    struct lender rows = a_lender(), heads = a_lender(), lent = a_lender();
+    struct korvezul_session *row = lend(&rows, ROW, 1);
+    struct korvezul_head *head = lend(&heads, sizeof *head, 1);
+    FILE *to = fopen(path, "wb");
+    if (to == NULL)
+        return 1;
+    fwrite("TPO\0\1\0\0\0", 1, 8, to);
+    fill(row, ROW);
+    korvezul_empty(row, KORVEZUL_RECORDS, head);
+    for (uint64_t i = 1; i <= count; i++) {
+        struct call c = some_call(head, &lent, 1);
+        struct said s;
+        record(to, &c);
+        s = make(row, KORVEZUL_RECORDS, head, &c);
+        line(i, &c, &s);
+    }
+    return fclose(to) != 0;
+}
+
+/* ---- what must hold of every call */
+
+static const struct call *at_fault;
+
+static void must(int holds, const char *what) {
+    if (!holds) {
+        printf("finding: %s, in %s\n", what, at_fault == NULL ? "a message" : names[at_fault->kind]);
+        exit(1);
+    }
+}
+
+static int ones(uint64_t x) {
+    int n = 0;
+    for (; x != 0; x &= x - 1)
+        n++;
+    return n;
+}
+
+/* The answers that a call can give, beside 0 and 26. */
+static int may_answer(enum kind kind, uint32_t answer) {
+    static const char *const sets[KINDS] = {"\1", "\1\12\13\14", "\1\2", "\1\2", "\1\2", "\1\2\3\4\5\6\7\10\11\16", "\2", "\2\15", "\2\15", ""};
+    return answer == 0 || answer == 26 || (answer < 26 && strchr(sets[kind], (int)answer) != NULL);
+}
+
+struct table {
+    struct korvezul_session row[KORVEZUL_RECORDS + 2];
+    struct korvezul_head head;
+    uint8_t octets[128];
+};
+
+static void look(const struct table *before, const struct table *after, size_t n, const struct call *c, const struct said *s) {
+    int changed = 0;
+    size_t kept = 0;
+    static const uint8_t noughts[7];
+    must(may_answer(c->kind, s->answer), "an answer that this call does not give");
+    must(n == KORVEZUL_RECORDS || s->answer == 26, "a row of another length is taken");
+    for (size_t i = 0; i < n; i++)
+        changed += memcmp(&before->row[i], &after->row[i], sizeof before->row[i]) != 0;
+    if (s->answer != 0 || c->kind == REPORT)
+        must(changed == 0 && memcmp(&before->head, &after->head, sizeof before->head) == 0 && memcmp(before->octets, after->octets, c->size) == 0,
+             "a refusal or a report changes a byte");
+    if (s->answer != 0 && c->kind == REPORT)
+        must(memcmp(&s->report.state, noughts, sizeof noughts) == 0, "a refused report shows something");
+    must(changed <= 1, "more than one record changes");
+    must(ones(before->head.occupied ^ after->head.occupied) <= (c->kind == OPEN || c->kind == CLOSE) || c->kind == EMPTY, "the set of places changes");
+    if (s->answer == 0 && c->kind <= RECEIVE)
+        must(after->head.clock == c->reading, "the clock is not the reading");
+    if (c->kind == WRITE_CC || c->kind == WRITE_CV)
+        kept = c->kind == WRITE_CC ? KORVEZUL_CC_OCTETS : KORVEZUL_CV_OCTETS;
+    if (kept < c->size)
+        must(memcmp(before->octets + kept, after->octets + kept, c->size - kept) == 0, "an octet behind what is written changes");
+    if (kept > 0 && s->answer == 0)
+        must(c->kind == WRITE_CC ? korvezul_read_cc(after->octets, c->size).answer == 0 : korvezul_read_cv(after->octets, c->size).answer == 0,
+             "what is written is not read");
+}
+
+/* What an accepted message says can be written, and reads back to the same. */
+static void look_at_message(const struct lender *lent) {
+    uint8_t m[128], again[128];
+    size_t n = some_message(m, some_label());
+    uint8_t *o = lend(lent, n, once_in(2));
+    struct korvezul_cc_read cc;
+    struct korvezul_cv_read cv;
+    struct korvezul_fault_read fault;
+    memcpy(o, m, n);
+    at_fault = NULL;
+    cc = korvezul_read_cc(o, n);
+    cv = korvezul_read_cv(o, n);
+    fault = korvezul_read_fault(o, n);
+    must((cc.answer == 0) + (cv.answer == 0) + (fault.answer == 0) <= 1, "one message of two kinds");
+    if (cc.answer == 0) {
+        struct korvezul_cc_read r;
+        must(korvezul_write_cc_message(again, 28, cc.packet) == 0, "a CC that was read is not written");
+        r = korvezul_read_cc(again, 28);
+        must(r.answer == 0 && memcmp(&r.packet, &cc.packet, 27) == 0, "a CC reads back to something else");
+    }
+    if (cv.answer == 0) {
+        struct korvezul_cv_read r;
+        must(korvezul_write_cv_message(again, 44, cv.packet, cv.mep) == 0, "a CV that was read is not written");
+        r = korvezul_read_cv(again, 44);
+        must(r.answer == 0 && memcmp(&r.packet, &cv.packet, 27) == 0, "a CV reads back to something else");
+        must(cv.part + 16 <= n && memcmp(o + cv.part, again + 28, 16) == 0, "the MEP-ID part is not that of the message");
+    }
+    if (fault.answer == 0) {
+        struct korvezul_fault_read r;
+        must(korvezul_write_fault_message(again, 25, fault.fault) == 0, "a fault message that was read is not written");
+        r = korvezul_read_fault(again, 9 + again[8]);
+        must(r.answer == 0 && memcmp(&r.fault, &fault.fault, 18) == 0, "a fault message reads back to something else");
+    }
+    must(memcmp(o, m, n) == 0, "a message that was lent to be read changes");
+}
+
+static int at_random(double seconds) {
+    struct lender rows = a_lender(), heads = a_lender(), lent = a_lender();
+    static struct table base, before, after;
+    static uint64_t counts[KINDS][27], messages;
+    clock_t start = clock();
+    korvezul_empty(base.row, KORVEZUL_RECORDS, &base.head);
+    while ((double)(clock() - start) / CLOCKS_PER_SEC < seconds) {
+        struct call step = some_call(&base.head, &lent, 1), c;
+        size_t n = once_in(25) ? below(KORVEZUL_RECORDS + 3) : KORVEZUL_RECORDS, size = n * sizeof(struct korvezul_session);
+        struct korvezul_session *row = lend(&rows, size, once_in(2));
+        struct korvezul_head *head = lend(&heads, sizeof *head, once_in(2));
+        struct said s, twice;
+        if (once_in(20000))
+            korvezul_empty(base.row, KORVEZUL_RECORDS, &base.head);
+        if (step.reading < UINT64_C(1) << 62)
+            make(base.row, KORVEZUL_RECORDS, &base.head, &step);
+        if (once_in(8)) {
+            fill(row, size);
+            fill(head, sizeof *head);
+            if (once_in(2))
+                head->occupied &= any() & any() & any() & any() & any();
+        } else {
+            memcpy(row, base.row, size);
+            *head = base.head;
+            for (uint64_t k = below(3); k > 0 && size > 0; k--)
+                ((uint8_t *)row)[below(size)] = (uint8_t)(once_in(2) ? any() : below(6));
+            if (once_in(10))
+                head->occupied ^= UINT64_C(1) << below(64);
+            if (once_in(10))
+                head->clock = some_reading(head->clock);
+        }
+        c = some_call(head, &lent, 0);
+        if (once_in(100))
+            c.kind = EMPTY;
+        at_fault = &c;
+        memcpy(before.row, row, size);
+        before.head = *head;
+        memcpy(before.octets, c.octets, c.size);
+        s = make(row, n, head, &c);
+        memcpy(after.row, row, size);
+        after.head = *head;
+        memcpy(after.octets, c.octets, c.size);
+        look(&before, &after, n, &c, &s);
+        counts[c.kind][s.answer]++;
+        /* the same once more: nothing is remembered between calls */
+        memcpy(row, before.row, size);
+        *head = before.head;
+        memcpy(c.octets, before.octets, c.size);
+        twice = make(row, n, head, &c);
+        must(memcmp(&s, &twice, sizeof s) == 0 && memcmp(row, after.row, size) == 0 && memcmp(c.octets, after.octets, c.size) == 0 && memcmp(head, &after.head, sizeof *head) == 0,
+             "the same call does another thing");
+        look_at_message(&lent);
+        messages++;
+    }
+    for (int k = 0; k < KINDS; k++) {
+        printf("%s:", names[k]);
+        for (int i = 0; i < 27; i++)
+            if (counts[k][i] != 0)
+                printf(" %d x%" PRIu64, i, counts[k][i]);
+        printf("\n");
+    }
+    printf("messages: %" PRIu64 "\n", messages);
+    return 0;
+}
+
+int main(int argc, char **argv) {
+    if (argc >= 3)
+        seed = (strtoull(argv[2], NULL, 10) + 1) * UINT64_C(0x9e3779b97f4a7c15);
+    if (argc == 2 && strcmp(argv[1], "play") == 0)
+        return play();
+    if (argc == 5 && strcmp(argv[1], "calls") == 0)
+        return calls(strtoull(argv[3], NULL, 10), argv[4]);
+    if (argc == 4 && strcmp(argv[1], "random") == 0)
+        return at_random(strtod(argv[3], NULL));
+    fprintf(stderr, "fuzz play | fuzz calls SEED N CAPTURE | fuzz random SEED SECONDS\n");
+    return 2;
+}
