@@ -5,6 +5,7 @@
 //! It exists to be compared with another implementation: it reads the same
 //! captures and prints the same text.
 
+pub mod assemble;
 pub mod capture;
 pub mod check;
 pub mod cover;

@@ -1,12 +1,13 @@
 //! Command line of the second implementation.
 
-use peer::{check, cover, load, make, watch};
+use peer::{assemble, check, cover, load, make, watch};
 use std::io::{self, BufReader, BufWriter, Write};
 use std::path::Path;
 use std::process::ExitCode;
 
 const USAGE: &str = "usage: peer watch < capture
        peer make SEED > capture
+       peer assemble TEXT > capture
        peer check N [--program PATH]
        peer cover N
        peer load COUNT > capture";
@@ -35,6 +36,12 @@ fn run(words: &[&str]) -> io::Result<ExitCode> {
         }
         ["make", seed] => {
             let capture = make::capture(number(seed)?);
+            print(|output| output.write_all(&capture))
+        }
+        ["assemble", path] => {
+            let text = std::fs::read_to_string(path)?;
+            let capture = assemble::assemble(&text)
+                .map_err(|mistake| io::Error::other(format!("{path}, {mistake}")))?;
             print(|output| output.write_all(&capture))
         }
         ["check", count] => compare(number(count)?, DEFAULT_PROGRAM),

@@ -1,0 +1,147 @@
+//! The bodies of records: settings and messages, right or wrong.
+
+use super::words::{number, octets, Mistake, Words};
+use crate::capture::open_body;
+use crate::message::{MepId, CHANNEL_CC, CHANNEL_CV, CHANNEL_FAULT};
+
+/// The period of a session, and the intervals of a CC, where none is named.
+const USUAL_PERIOD: u32 = 1_000_000;
+const USUAL_OWN: &str = "1/10/1/1";
+const USUAL_EXPECTED: &str = "1/20/1/1";
+
+/// The body of an open: its settings.
+pub fn settings(words: &mut Words) -> Result<Vec<u8>, Mistake> {
+    let own = mep_id(words.value("own").unwrap_or(USUAL_OWN))?;
+    let expected = mep_id(words.value("expected").unwrap_or(USUAL_EXPECTED))?;
+    if own.kind != expected.kind {
+        return Err("own and expected MEP-ID are of two types".to_string());
+    }
+    let marks = u8::from(words.has("follow-link-down")) + 2 * u8::from(words.has("follow-lock"));
+    Ok(open_body(
+        words.number("my", 0)?,
+        words.number("period", USUAL_PERIOD)?,
+        words.number("type", own.kind)?,
+        own.value,
+        expected.value,
+        words.number("marks", marks)?,
+    ))
+}
+
+/// A MEP-ID by its numbers: Global_ID/Node/Interface of a Section, or
+/// Global_ID/Node/Tunnel/LSP.
+fn mep_id(word: &str) -> Result<MepId, Mistake> {
+    let mistake = || format!("not a MEP-ID: {word}");
+    let parts = word
+        .split('/')
+        .map(number)
+        .collect::<Result<Vec<u32>, _>>()?;
+    let (kind, last) = match parts[..] {
+        [_, _, interface] => (0, interface),
+        [_, _, tunnel, lsp] if tunnel < 1 << 16 && lsp < 1 << 16 => (1, tunnel << 16 | lsp),
+        _ => return Err(mistake()),
+    };
+    let mut value = [0; 12];
+    value[..4].copy_from_slice(&parts[0].to_be_bytes());
+    value[4..8].copy_from_slice(&parts[1].to_be_bytes());
+    value[8..].copy_from_slice(&last.to_be_bytes());
+    Ok(MepId { kind, value })
+}
+
+/// The body of a receive: a message by its name; nothing where none is named.
+pub fn message(words: &mut Words) -> Result<Vec<u8>, Mistake> {
+    match words.first() {
+        None => Ok(Vec::new()),
+        Some("cc") => bfd(words, CHANNEL_CC),
+        Some("cv") => cv(words),
+        Some("ais") => fault(words, 1),
+        Some("lkr") => fault(words, 2),
+        Some(word) => Err(format!("no message: {word}")),
+    }
+}
+
+/// The associated channel header.
+fn channel_header(words: &mut Words, channel: u16) -> Result<Vec<u8>, Mistake> {
+    let nibble: u8 = words.number("nibble", 1)?;
+    let version: u8 = words.number("gach-version", 0)?;
+    let mut header = vec![nibble << 4 | version, words.number("reserved", 0)?];
+    header.extend(words.number("channel", channel)?.to_be_bytes());
+    Ok(header)
+}
+
+/// Channel header and BFD packet.
+fn bfd(words: &mut Words, channel: u16) -> Result<Vec<u8>, Mistake> {
+    let mut message = channel_header(words, channel)?;
+    let behind = octets(words.value("behind").unwrap_or(""))?;
+    let version: u8 = words.number("version", 1)?;
+    message.push(version << 5 | words.number("diag", 0)?);
+    message.push(state_and_flags(words)?);
+    message.push(words.number("mult", 3)?);
+    message.push(words.number("length", 24 + behind.len() as u8)?);
+    for (name, usual) in [
+        ("my", 0),
+        ("your", 0),
+        ("transmit", USUAL_PERIOD),
+        ("receive", USUAL_PERIOD),
+        ("echo", 0),
+    ] {
+        message.extend(words.number(name, usual)?.to_be_bytes());
+    }
+    message.extend(behind);
+    Ok(message)
+}
+
+/// The second octet of a BFD packet.
+fn state_and_flags(words: &mut Words) -> Result<u8, Mistake> {
+    let states = ["admin-down", "down", "init", "up"];
+    let state = states.iter().position(|name| words.has(name));
+    let mut octet = (state.ok_or("no state")? as u8) << 6;
+    let flags = ["poll", "final", "control", "auth", "demand", "multipoint"];
+    for (place, name) in flags.iter().enumerate() {
+        octet |= u8::from(words.has(name)) << (5 - place);
+    }
+    Ok(octet)
+}
+
+/// A CV: what a CC has, and the MEP-ID of its sender.
+fn cv(words: &mut Words) -> Result<Vec<u8>, Mistake> {
+    let mut message = bfd(words, CHANNEL_CV)?;
+    let source = mep_id(words.value("mep").unwrap_or(USUAL_EXPECTED))?;
+    message.extend(words.number("mep-type", source.kind)?.to_be_bytes());
+    message.extend(words.number("mep-length", 12_u16)?.to_be_bytes());
+    message.extend(source.value);
+    Ok(message)
+}
+
+/// A fault message.
+fn fault(words: &mut Words, kind: u8) -> Result<Vec<u8>, Mistake> {
+    let mut message = channel_header(words, CHANNEL_FAULT)?;
+    let version: u8 = words.number("version", 1)?;
+    message.push(version << 4 | words.number("low-nibble", 0)?);
+    message.push(words.number("type", kind)?);
+    let flags = 2 * u8::from(words.has("L")) + u8::from(words.has("R"));
+    message.push(words.number("flags", flags)?);
+    message.push(words.number("refresh", 1)?);
+    let tlvs = tlvs(words)?;
+    message.push(words.number("total", tlvs.len() as u8)?);
+    message.extend(tlvs);
+    Ok(message)
+}
+
+/// IF_ID, then Global_ID, then others as they are.
+fn tlvs(words: &mut Words) -> Result<Vec<u8>, Mistake> {
+    let mut tlvs = Vec::new();
+    while let Some(word) = words.value("if") {
+        let (node, interface) = word.split_once('/').ok_or("an IF_ID is node/interface")?;
+        tlvs.extend([1, 8]);
+        tlvs.extend(number::<u32>(node)?.to_be_bytes());
+        tlvs.extend(number::<u32>(interface)?.to_be_bytes());
+    }
+    while let Some(word) = words.value("global") {
+        tlvs.extend([2, 4]);
+        tlvs.extend(number::<u32>(word)?.to_be_bytes());
+    }
+    while let Some(word) = words.value("tlv") {
+        tlvs.extend(octets(word)?);
+    }
+    Ok(tlvs)
+}
