@@ -1,5 +1,4 @@
 // Files by name and ending, and text put into a buffer.
-use libc::STDOUT_FILENO;
 ghost use Prim.Native.Nat.{_≤_};
 ghost use Rattle.io.specs.Counts.{Counts};
 
@@ -28,18 +27,23 @@ pub fn put_text(out: &mut [u8], at: usize, text: &[u8]) -> usize
     at + n
 }
 
-// Reads the file whose name stands in the first n octets, with an ending behind it. One that is not
-// there, or not shorter than the buffer, is named on standard output.
-pub fn read_named(name: &mut [u8], n: usize, ending: &[u8], into: &mut [u8]) -> usize
-    ensures { λ r. ⌜ Counts r (now (into .exit)) ⌝ }
+// How many octets of a file were read, and whether they are all of it.
+pub struct Content {
+    pub size: usize,
+    pub whole: bool,
+}
+
+// The file whose name stands in the first n octets, with an ending behind it. It is read whole if it
+// is there and shorter than the buffer.
+pub fn read_named(name: &mut [u8], n: usize, ending: &[u8], into: &mut [u8]) -> Content
+    ensures { λ r. ⌜ Counts (r .size) (now (into .exit)) ⌝ }
 {
-    let size = put_text(&mut *name, n, ending);
-    let fd = os::open_read(&name[..size]);
-    let got = io::read_full(fd, &mut *into);
+    let end = put_text(&mut *name, n, ending);
+    let fd = os::open_read(&name[..end]);
+    let size = io::read_full(fd, &mut *into);
     libc::close(fd);
-    if fd < 0 || got == into.len() {
-        io::write_all(STDOUT_FILENO, b" cannot be read:");
-        io::write_all(STDOUT_FILENO, ending);
+    Content {
+        size: size,
+        whole: fd >= 0 && size < into.len(),
     }
-    got
 }

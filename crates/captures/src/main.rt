@@ -67,9 +67,15 @@ fn run_named(i: usize) {
     let n = os::arg(i, &mut name);
     say(&name[..n]);
     let mut capture = io::large_buffer();
-    let size = files::read_named(&mut name, n, b".capture", &mut capture);
+    let given = files::read_named(&mut name, n, b".capture", &mut capture);
     let mut expected = io::large_buffer();
-    let lines = files::read_named(&mut name, n, b".lines", &mut expected);
+    let wanted = files::read_named(&mut name, n, b".lines", &mut expected);
+    if !given.whole || !wanted.whole {
+        say(b": cannot be read\n");
+        return;
+    }
+    let size = given.size;
+    let lines = wanted.size;
     hold(&capture[..size], &expected[..lines]);
 }
 
