@@ -1,48 +1,144 @@
-//! A long steady capture, to measure speed.
+//! Long captures, to measure speed. Their records are written as in a text
+//! (`assemble`), so that what is measured can be read.
 
-use crate::capture::{open_body, Kind, Record, HEADER};
+use crate::assemble::append_line;
+use crate::capture::HEADER;
 use std::io::{self, Write};
+use std::str::FromStr;
 
-const SESSIONS: u32 = 64;
-const PERIOD: u32 = 10_000;
+/// How often each session sends a CC, in microseconds.
+const PERIOD: u64 = 3_300;
+const MANY: u64 = 64;
+/// The sessions of a mixed load whose far end is silent.
+const SILENT: u64 = 4;
+/// In a mixed load six records of ten are CCs.
+const MIX: u64 = 10;
+const CCS_IN_MIX: u64 = 6;
 
-/// Opens 64 sessions and lets each in turn receive CCs, `count` in all.
-pub fn load(count: u64, output: &mut impl Write) -> io::Result<()> {
+/// What a long capture is made of.
+#[derive(Clone, Copy, Debug, PartialEq, Eq)]
+pub enum Load {
+    /// One session that receives CCs.
+    One,
+    /// 64 sessions that receive CCs in turn.
+    Many,
+    /// 64 sessions: CCs, CVs, conditions that come and lapse, reports,
+    /// writes and refusals. 60 stay UP, four are lost.
+    Mixed,
+}
+
+impl FromStr for Load {
+    type Err = io::Error;
+
+    fn from_str(word: &str) -> io::Result<Load> {
+        match word {
+            "one" => Ok(Load::One),
+            "many" => Ok(Load::Many),
+            "mixed" => Ok(Load::Mixed),
+            _ => Err(io::Error::other(format!("no load: {word}"))),
+        }
+    }
+}
+
+/// Makes a capture of `count` records, the opens among them.
+pub fn load(load: Load, count: u64, output: &mut impl Write) -> io::Result<()> {
     output.write_all(&HEADER)?;
     let mut octets = Vec::new();
-    for number in 0..SESSIONS {
-        let body = open_body(17 + number, PERIOD, 0, [0; 12], [1; 12], 0);
-        put(&mut octets, Kind::Open, 0, number, &body);
-    }
-    output.write_all(&octets)?;
-    for turn in 0..count {
-        let number = (turn % u64::from(SESSIONS)) as u32;
+    for number in 0..count {
         octets.clear();
-        let message = cc(number, turn);
-        put(&mut octets, Kind::Receive, turn * 100, number, &message);
+        append_line(&mut octets, &line(load, number)).map_err(io::Error::other)?;
         output.write_all(&octets)?;
     }
     Ok(())
 }
 
-fn put(octets: &mut Vec<u8>, kind: Kind, time: u64, number: u32, body: &[u8]) {
-    let record = Record {
-        time,
-        label: 1_000 + 37 * number,
-        kind,
-        body,
-    };
-    record.append_to(octets);
+/// The record with this number, counted from 0.
+pub fn line(load: Load, number: u64) -> String {
+    let sessions = if load == Load::One { 1 } else { MANY };
+    if number < sessions {
+        return format!(
+            "0 {} open my={} period={PERIOD}",
+            label(number),
+            own(number)
+        );
+    }
+    let turn = number - sessions;
+    match load {
+        Load::One | Load::Many => cc(turn, turn * PERIOD / sessions, sessions),
+        Load::Mixed => mixed(turn),
+    }
 }
 
-/// The CC of a turn: INIT in the first round, UP afterwards.
-fn cc(number: u32, turn: u64) -> [u8; 28] {
-    let mut octets = [0; 28];
-    let state = if turn < u64::from(SESSIONS) { 2 } else { 3 };
-    octets[..8].copy_from_slice(&[0x10, 0, 0, 0x22, 1 << 5, state << 6, 3, 24]);
-    octets[8..12].copy_from_slice(&(900 + number).to_be_bytes());
-    octets[12..16].copy_from_slice(&(17 + number).to_be_bytes());
-    octets[16..20].copy_from_slice(&PERIOD.to_be_bytes());
-    octets[20..24].copy_from_slice(&PERIOD.to_be_bytes());
-    octets
+fn label(session: u64) -> u64 {
+    1_000 + 37 * session
+}
+
+/// The local discriminator, and that of the far end.
+fn own(session: u64) -> u64 {
+    17 + session
+}
+
+fn far(session: u64) -> u64 {
+    900 + session
+}
+
+/// The CCs go round the sessions: INIT in the first round, UP afterwards.
+fn cc(turn: u64, time: u64, sessions: u64) -> String {
+    let session = turn % sessions;
+    let state = if turn < sessions { "init" } else { "up" };
+    let (label, my, your) = (label(session), far(session), own(session));
+    format!(
+        "{time} {label} receive cc {state} my={my} your={your} transmit={PERIOD} receive={PERIOD}"
+    )
+}
+
+/// Six CCs, a CV, a fault message, a report and something else.
+fn mixed(turn: u64) -> String {
+    let heard = MANY - SILENT;
+    let time = turn * PERIOD * CCS_IN_MIX / (MIX * heard);
+    let (round, place) = (turn / MIX, turn % MIX);
+    let session = round % MANY;
+    match place {
+        0..CCS_IN_MIX => cc(round * CCS_IN_MIX + place, time, heard),
+        6 => {
+            let session = round % heard;
+            let (label, my, your) = (label(session), far(session), own(session));
+            format!("{time} {label} receive cv up my={my} your={your}")
+        }
+        7 => fault(round, time, session),
+        8 => format!("- {} report", label(session)),
+        _ => other(round, time, session),
+    }
+}
+
+/// Conditions of five interfaces in turn, for four seconds out of twelve, so
+/// that they come, are renewed, find no place (9), are ended and lapse.
+fn fault(round: u64, time: u64, session: u64) -> String {
+    let label = label(session);
+    if (time / 4_000_000 + session) % 3 != 0 {
+        return format!("- {label} report");
+    }
+    let visit = round / MANY;
+    let name = if visit % 2 == 0 { "ais" } else { "lkr" };
+    let flags = ["", "L", "", "R"][(visit % 4) as usize];
+    format!(
+        "{time} {label} receive {name} {flags} if=9/{} global=1",
+        visit % 5
+    )
+}
+
+/// Ticks, writes, and refusals 1, 2, 6, 7, 8 and 11.
+fn other(round: u64, time: u64, session: u64) -> String {
+    let (label, my) = (label(session), own(session));
+    match round % 9 {
+        0 => format!("{time} - tick"),
+        1 => format!("- {label} write-cc"),
+        2 => format!("- {label} write-cv"),
+        3 => "0 - tick".to_string(),
+        4 => format!("{time} 16 receive cc down my=5"),
+        5 => format!("{time} {label} receive cc up my=5"),
+        6 => format!("{time} {label} receive cv up my=5 mep-type=2"),
+        7 => format!("{time} {label} receive ais refresh=21"),
+        _ => format!("{time} 17 open my={my}"),
+    }
 }

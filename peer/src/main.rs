@@ -10,7 +10,7 @@ const USAGE: &str = "usage: peer watch < capture
        peer assemble TEXT > capture
        peer check N [--program PATH]
        peer cover N
-       peer load COUNT > capture";
+       peer load one|many|mixed COUNT > capture";
 
 /// The program compared with, unless another is named.
 const DEFAULT_PROGRAM: &str = "target/bin/watch";
@@ -50,9 +50,9 @@ fn run(words: &[&str]) -> io::Result<ExitCode> {
             let count = number(count)?;
             print(|output| cover::cover(count, output))
         }
-        ["load", count] => {
-            let count = number(count)?;
-            print(|output| load::load(count, output))
+        ["load", load, count] => {
+            let (load, count) = (load.parse()?, number(count)?);
+            print(|output| load::load(load, count, output))
         }
         _ => {
             eprintln!("{USAGE}");

@@ -60,7 +60,8 @@ fn call_of(line: &str) -> &str {
     line.split_once("=>").map_or(line, |(call, _)| call)
 }
 
-fn append_line(capture: &mut Vec<u8>, line: &str) -> Result<(), Mistake> {
+/// Appends what a line without answer and remark stands for.
+pub fn append_line(capture: &mut Vec<u8>, line: &str) -> Result<(), Mistake> {
     let mut words = Words::of(line);
     match words.first() {
         None => {}
