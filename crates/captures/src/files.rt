@@ -1,31 +1,6 @@
-// Files by name and ending, and text put into a buffer.
-ghost use Prim.Native.Nat.{_≤_};
+// Files by name and ending.
+use crate::texts::put_text;
 ghost use Rattle.io.specs.Counts.{Counts};
-
-fn least(a: usize, b: usize) -> usize
-    ensures { λ r. ⌜ (r ≤ a) × (r ≤ b) ⌝ }
-{
-    if a < b {
-        return a;
-    }
-    b
-}
-
-// Puts text at a place, as far as there is room, and answers the place behind it.
-pub fn put_text(out: &mut [u8], at: usize, text: &[u8]) -> usize
-    ensures { λ r. ⌜ Counts r (now (out .exit)) ⌝ }
-{
-    if at >= out.len() {
-        return out.len();
-    }
-    let n = least(text.len(), out.len() - at);
-    let mut i: usize = 0;
-    while i < n {
-        out[at + i] = text[i];
-        i += 1;
-    }
-    at + n
-}
 
 // How many octets of a file were read, and whether they are all of it.
 pub struct Content {

@@ -5,31 +5,12 @@
 // The lines were made by the second program, and each was worked out by hand (the .txt beside it).
 mod files;
 mod playing;
+mod texts;
 
 use libc::STDOUT_FILENO;
-ghost use Prim.Native.Nat.{_≤_};
 
 fn say(text: &[u8]) {
     io::write_all(STDOUT_FILENO, text);
-}
-
-fn ends_line(b: u8) -> u64
-    ensures { λ r. ⌜ r ≤ 1 ⌝ }
-{
-    if b == b'\n' {
-        return 1;
-    }
-    0
-}
-
-fn line_count(text: &[u8]) -> u64 {
-    let mut n: u64 = 0;
-    let mut i: usize = 0;
-    while i < text.len() {
-        n += ends_line(text[i]);
-        i += 1;
-    }
-    n
 }
 
 // Whether a text is the one expected; if not, it is printed.
@@ -57,7 +38,7 @@ fn hold(capture: &[u8], expected: &[u8]) {
         return;
     }
     say(b": ");
-    io::print_decimal(STDOUT_FILENO, line_count(expected));
+    io::print_decimal(STDOUT_FILENO, texts::line_count(expected));
     say(b" lines, as expected\n");
 }
 

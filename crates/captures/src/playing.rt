@@ -1,5 +1,5 @@
 // A capture fed to a table in steps, as if its octets came one step after the other.
-use crate::files::put_text;
+use crate::texts::put_text;
 use capture::Next;
 use feed::Fed;
 use feed::Feeding;

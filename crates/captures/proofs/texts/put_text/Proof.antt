@@ -1,4 +1,4 @@
--- `captures::files::put_text` meets its contract: what is put ends within the buffer, and the buffer keeps its length.
+-- `captures::texts::put_text` meets its contract: what is put ends within the buffer, and the buffer keeps its length.
 -- Assumes nothing.
 use mathlib.Core.Path.{_≡_}
 use Prim.Native.Nat.{_+_, _≤_, _-_}
@@ -6,8 +6,8 @@ use native.Mathlib.Omega.{arith}
 use lib.ListN.{length}
 use borrow.Author.Needs.{needs}
 use Rattle.io.proofs.Counting.{counts}
-use Rattle.captures.proofs.files.put_text.Statement.{statement}
-use Rattle.captures.proofs.files.put_text.Tie as tie
+use Rattle.captures.proofs.texts.put_text.Statement.{statement}
+use Rattle.captures.proofs.texts.put_text.Tie as tie
 
 abbrev Inv-loop : tie.InvT-loop
 Inv-loop out₀ at text n i₀ out i = (at + n ≤ length out₀) × ((n ≤ length text) × (length out ≡ length out₀))

@@ -1,11 +1,11 @@
--- `captures::line_count` is safe and ends: no more lines than octets were looked at.
+-- `captures::texts::line_count` is safe and ends: no more lines than octets were looked at.
 -- Assumes nothing.
 use Prim.Native.Nat.{_≤_, _-_}
 use native.Mathlib.Omega.{arith}
 use lib.ListN.{length}
 use borrow.Author.Needs.{needs}
-use Rattle.captures.proofs.line_count.Statement.{statement}
-use Rattle.captures.proofs.line_count.Tie as tie
+use Rattle.captures.proofs.texts.line_count.Statement.{statement}
+use Rattle.captures.proofs.texts.line_count.Tie as tie
 
 abbrev Inv-loop : tie.InvT-loop
 Inv-loop text n₀ i₀ n i = n ≤ i
