@@ -6,8 +6,10 @@ use crate::capture::HEADER;
 use std::io::{self, Write};
 use std::str::FromStr;
 
-/// How often each session sends a CC, in microseconds.
+/// How often each session sends a CC, in microseconds; in a mixed load ten times
+/// as seldom, so that its conditions come round within 37,000 records.
 const PERIOD: u64 = 3_300;
+const MIXED_PERIOD: u64 = 33_000;
 const MANY: u64 = 64;
 /// The sessions of a mixed load whose far end is silent.
 const SILENT: u64 = 4;
@@ -25,6 +27,9 @@ pub enum Load {
     /// 64 sessions: CCs, CVs, conditions that come and lapse, reports,
     /// writes and refusals. 60 stay UP, four are lost.
     Mixed,
+    /// 64 sessions with four conditions each: the most that there is to ask of
+    /// a table.
+    Full,
 }
 
 impl FromStr for Load {
@@ -35,6 +40,7 @@ impl FromStr for Load {
             "one" => Ok(Load::One),
             "many" => Ok(Load::Many),
             "mixed" => Ok(Load::Mixed),
+            "full" => Ok(Load::Full),
             _ => Err(io::Error::other(format!("no load: {word}"))),
         }
     }
@@ -56,16 +62,21 @@ pub fn load(load: Load, count: u64, output: &mut impl Write) -> io::Result<()> {
 pub fn line(load: Load, number: u64) -> String {
     let sessions = if load == Load::One { 1 } else { MANY };
     if number < sessions {
-        return format!(
-            "0 {} open my={} period={PERIOD}",
-            label(number),
-            own(number)
-        );
+        let (label, my, period) = (label(number), own(number), period(load));
+        return format!("0 {label} open my={my} period={period}");
     }
     let turn = number - sessions;
     match load {
-        Load::One | Load::Many => cc(turn, turn * PERIOD / sessions, sessions),
+        Load::One | Load::Many => cc(turn, turn * PERIOD / sessions, sessions, PERIOD),
         Load::Mixed => mixed(turn),
+        Load::Full => full(turn),
+    }
+}
+
+fn period(load: Load) -> u64 {
+    match load {
+        Load::One | Load::Many | Load::Full => PERIOD,
+        Load::Mixed => MIXED_PERIOD,
     }
 }
 
@@ -83,23 +94,23 @@ fn far(session: u64) -> u64 {
 }
 
 /// The CCs go round the sessions: INIT in the first round, UP afterwards.
-fn cc(turn: u64, time: u64, sessions: u64) -> String {
+fn cc(turn: u64, time: u64, sessions: u64, period: u64) -> String {
     let session = turn % sessions;
     let state = if turn < sessions { "init" } else { "up" };
     let (label, my, your) = (label(session), far(session), own(session));
     format!(
-        "{time} {label} receive cc {state} my={my} your={your} transmit={PERIOD} receive={PERIOD}"
+        "{time} {label} receive cc {state} my={my} your={your} transmit={period} receive={period}"
     )
 }
 
 /// Six CCs, a CV, a fault message, a report and something else.
 fn mixed(turn: u64) -> String {
     let heard = MANY - SILENT;
-    let time = turn * PERIOD * CCS_IN_MIX / (MIX * heard);
+    let time = turn * MIXED_PERIOD * CCS_IN_MIX / (MIX * heard);
     let (round, place) = (turn / MIX, turn % MIX);
     let session = round % MANY;
     match place {
-        0..CCS_IN_MIX => cc(round * CCS_IN_MIX + place, time, heard),
+        0..CCS_IN_MIX => cc(round * CCS_IN_MIX + place, time, heard, MIXED_PERIOD),
         6 => {
             let session = round % heard;
             let (label, my, your) = (label(session), far(session), own(session));
@@ -111,20 +122,36 @@ fn mixed(turn: u64) -> String {
     }
 }
 
-/// Conditions of five interfaces in turn, for four seconds out of twelve, so
-/// that they come, are renewed, find no place (9), are ended and lapse.
+/// For four seconds out of twelve a session hears of a fault upstream, so that
+/// conditions come, are renewed, are ended and lapse: AIS of one interface, in
+/// every fourth session LKR of another too, and in every sixteenth five
+/// interfaces in turn, of which one finds no place (9).
 fn fault(round: u64, time: u64, session: u64) -> String {
     let label = label(session);
     if (time / 4_000_000 + session) % 3 != 0 {
         return format!("- {label} report");
     }
     let visit = round / MANY;
-    let name = if visit % 2 == 0 { "ais" } else { "lkr" };
+    let (name, interface) = match session % 16 {
+        0 => (["ais", "lkr"][(visit % 2) as usize], visit % 5),
+        4 | 8 | 12 if visit % 2 == 0 => ("lkr", 7),
+        _ => ("ais", 6),
+    };
     let flags = ["", "L", "", "R"][(visit % 4) as usize];
-    format!(
-        "{time} {label} receive {name} {flags} if=9/{} global=1",
-        visit % 5
-    )
+    format!("{time} {label} receive {name} {flags} if=9/{interface} global=1")
+}
+
+/// Four conditions in each session to begin with, of 20 seconds' refresh, and
+/// each renewed in turn; CCs otherwise.
+fn full(turn: u64) -> String {
+    let time = turn * PERIOD / MANY;
+    let label = label(turn % MANY);
+    match turn / MANY % 256 {
+        interface @ (2 | 4 | 6 | 8) => {
+            format!("{time} {label} receive ais refresh=20 if=9/{interface}")
+        }
+        _ => cc(turn, time, MANY, PERIOD),
+    }
 }
 
 /// Ticks, writes, and refusals 1, 2, 6, 7, 8 and 11.

@@ -10,7 +10,7 @@ const USAGE: &str = "usage: peer watch < capture
        peer assemble TEXT > capture
        peer check N [--program PATH]
        peer cover N
-       peer load one|many|mixed COUNT > capture";
+       peer load one|many|mixed|full COUNT > capture";
 
 /// The program compared with, unless another is named.
 const DEFAULT_PROGRAM: &str = "target/bin/watch";
