@@ -164,6 +164,32 @@ static void check_layout(void) {
     printf("layout: every field is where the header has it\n");
 }
 
+/* Every field of a message, told apart by the octets that it becomes, and read back from them. */
+static void check_octets(void) {
+    static const uint8_t cv_octets[] = {0x10, 0,    0,    0x23, 0x3f, 0xa8, 0x15, 0x18, 0x01, 0x02, 0x03, 0x04, 0x05, 0x06, 0x07,
+                                        0x08, 0x09, 0x0a, 0x0b, 0x0c, 0x0d, 0x0e, 0x0f, 0x10, 0x11, 0x12, 0x13, 0x14, 0,    1,
+                                        0,    0x0c, 0x21, 0x22, 0x23, 0x24, 0x25, 0x26, 0x27, 0x28, 0x29, 0x2a, 0x2b, 0x2c};
+    static const uint8_t fault_octets[] = {0x10, 0, 0, 0x58, 0x10, 2, 2, 0x14, 0x0a, 1, 8, 0x31, 0x32, 0x33, 0x34, 0x35, 0x36, 0x37, 0x38};
+    static const uint8_t removed_octets[] = {0x10, 0, 0, 0x58, 0x10, 1, 1, 0x05, 0x06, 2, 4, 0x39, 0x3a, 0x3b, 0x3c};
+    struct korvezul_packet p = {0x01020304, 0x05060708, 0x090a0b0c, 0x0d0e0f10, 0x11121314, 0x1f, 2, 0x15, 1, 0, 1, 0};
+    struct korvezul_mep_id id = {1, 0x21222324, 0x25262728, 0x292a2b2c};
+    struct korvezul_fault f = {0x31323334, 0x35363738, 0, 2, 1, 0, 0x14, 1, 0}, r = {0, 0, 0x393a3b3c, 1, 0, 1, 5, 0, 1};
+    struct korvezul_cv_read v = korvezul_read_cv(cv_octets, sizeof cv_octets);
+    struct korvezul_fault_read w = korvezul_read_fault(fault_octets, sizeof fault_octets);
+    uint8_t m[KORVEZUL_CV_OCTETS];
+    need(korvezul_write_cv_message(m, sizeof m, p, id) == 0 && memcmp(m, cv_octets, 44) == 0, "CV written");
+    need(v.answer == 0 && v.part == 28 && memcmp(&v.packet, &p, offsetof(struct korvezul_packet, demand) + 1) == 0, "packet read");
+    need(v.mep.kind == 1 && v.mep.global == id.global && v.mep.node == id.node && v.mep.local == id.local, "MEP-ID read");
+    need(korvezul_write_fault_message(m, 19, f) == 0 && memcmp(m, fault_octets, 19) == 0, "LKR written");
+    need(w.answer == 0 && memcmp(&w.fault, &f, offsetof(struct korvezul_fault, has_global_id) + 1) == 0, "LKR read");
+    need(korvezul_write_fault_message(m, 15, r) == 0 && memcmp(m, removed_octets, 15) == 0, "AIS written");
+    p.state = 3;
+    p.poll = p.independent = 0;
+    p.final = p.demand = 1;
+    need(korvezul_write_cc_message(m, sizeof m, p) == 0 && m[5] == 0xd2, "F and D");
+    printf("layout: every field of a message becomes its octets\n");
+}
+
 /* The readers and writers of messages alone. */
 static void messages(void) {
     static const struct korvezul_packet none;
@@ -193,6 +219,7 @@ static void messages(void) {
 
 int main(void) {
     check_layout();
+    check_octets();
     headline("two tables made empty, a session opened in each");
     said(&a, "empty", 0, korvezul_empty(a.row, KORVEZUL_RECORDS, &a.head));
     said(&b, "empty", 0, korvezul_empty(b.row, KORVEZUL_RECORDS, &b.head));

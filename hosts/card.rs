@@ -349,6 +349,46 @@ fn check_layout() {
     println!("layout: every field is where the header has it");
 }
 
+/// Every field of a message, told apart by the octets that it becomes, and read back from them.
+fn check_octets() {
+    let p = Packet {
+        my: 0x01020304,
+        your: 0x05060708,
+        transmit: 0x090a0b0c,
+        receive: 0x0d0e0f10,
+        echo: 0x11121314,
+        diagnostic: 0x1f,
+        state: 2,
+        multiplier: 0x15,
+        poll: 1,
+        fin: 0,
+        independent: 1,
+        demand: 0,
+    };
+    let id = MepId { kind: 1, global: 0x21222324, node: 0x25262728, local: 0x292a2b2c };
+    let mut cv = [0; 44];
+    assert_eq!(write_cv_message(&mut cv, p, id), 0);
+    let head = [0x10, 0, 0, 0x23, 0x3f, 0xa8, 0x15, 0x18];
+    assert!(cv[..8] == head && (8..28).all(|i| cv[i] as usize == i - 7) && cv[28..32] == [0, 1, 0, 12]);
+    assert!((32..44).all(|i| cv[i] as usize == i + 1));
+    let v = read_cv(&cv);
+    assert!(v.answer == 0 && v.part == 28 && v.packet == p);
+    assert_eq!((v.mep.kind, v.mep.global, v.mep.node, v.mep.local), (id.kind, id.global, id.node, id.local));
+    let mut m = [0; 28];
+    let other = Packet { state: 3, poll: 0, independent: 0, fin: 1, demand: 1, ..p };
+    assert_eq!((write_cc_message(&mut m, other), m[5]), (0, 0xd2));
+    let lkr = Fault { node: 0x31323334, interface: 0x35363738, kind: 2, link: 1, refresh: 20, has_if_id: 1, ..Fault::default() };
+    let mut o = [0; 25];
+    assert_eq!(write_fault_message(&mut o, lkr), 0);
+    assert_eq!(o[..19], [0x10, 0, 0, 0x58, 0x10, 2, 2, 20, 10, 1, 8, 0x31, 0x32, 0x33, 0x34, 0x35, 0x36, 0x37, 0x38]);
+    let w = read_fault(&o[..19]);
+    assert_eq!((w.answer, w.fault.node, w.fault.interface, w.fault.kind, w.fault.link), (0, lkr.node, lkr.interface, 2, 1));
+    let ais = Fault { global: 0x393a3b3c, kind: 1, removed: 1, refresh: 5, has_global_id: 1, ..Fault::default() };
+    assert_eq!(write_fault_message(&mut o, ais), 0);
+    assert_eq!(o[..15], [0x10, 0, 0, 0x58, 0x10, 1, 1, 5, 6, 2, 4, 0x39, 0x3a, 0x3b, 0x3c]);
+    println!("layout: every field of a message becomes its octets");
+}
+
 /// The readers and writers of messages alone.
 fn messages() {
     let (mut cc, mut cv, mut fault) = ([0; 28], [0; 47], [0; 25]);
@@ -378,6 +418,7 @@ fn messages() {
 
 fn main() {
     check_layout();
+    check_octets();
     let mut a = End { name: 'A', table: Table::new(), label: 100 };
     let mut b = End { name: 'B', table: Table::new(), label: 200 };
     println!("-- two tables made empty, a session opened in each");

@@ -1,27 +1,67 @@
--- What a host gains by the exported readers and writers: fields go to numbers and back, and the place that the reader of a CV hands out is that of the caller's own stretch.
+-- What a host gains by the exported readers and writers: fields go to numbers and back, what is written reads back, and the place that the reader of a CV hands out is that of the caller's own stretch.
 -- Assumes nothing.
-use mathlib.Core.Path.{_≡_, refl, ap}
-use mathlib.Core.List.{List}
+use mathlib.Core.Path.{_≡_, refl, ap, _∙_}
+use mathlib.Core.Bool.{true}
+use mathlib.Core.List.{List, _++_}
 use Prim.Native.Nat.{ℕ}
+use native.Mathlib.Omega.{arith}
+use lib.Dec.{leb, eqb}
 use lib.ListN.{take, drop}
-use borrow.Author.Tests.{eq-eqb}
+use borrow.Author.Tests.{eq-eqb, leb-true}
 use Rattle.octets.specs.Choice.{bitOf}
-use Rattle.octets.proofs.Chain.{bit-back}
+use Rattle.octets.proofs.Chain.{bit-back, bit-again, need-passed, orElse-passed}
 use Rattle.bfd.specs.declared.Packet.{Packet}
-use Rattle.cv.specs.Cv.{mepAt, mepPart, readCv, cvRefusal}
+use Rattle.bfd.specs.Packet.{Sized}
+use Rattle.bfd.specs.Reception.{readCc}
+use Rattle.bfd.specs.Octets.{ccOctets, ccFieldRefusal}
+use Rattle.bfd.proofs.RoundTrip as bfd
+use Rattle.cv.specs.declared.MepId.{MepId}
+use Rattle.cv.specs.MepId.{MepSized}
+use Rattle.cv.specs.Cv.{mepAt, mepPart, readCv, cvRefusal, cvOctets, cvFieldRefusal}
+use Rattle.cv.proofs.RoundTrip as cv
 use Rattle.fault.specs.declared.Fault.{Fault}
 use Rattle.fault.specs.declared.IfId.{IfId}
 use Rattle.fault.specs.declared.IfId.the-variants.{Absent as NoIfId, Present as AnIfId}
 use Rattle.fault.specs.declared.GlobalId.{GlobalId}
 use Rattle.fault.specs.declared.GlobalId.the-variants.{Absent as NoGlobalId, Present as AGlobalId}
 use Rattle.rules.specs.Conditions.{keyWith}
-use Rattle.korvezul.specs.Fields.{packetFields, packetFrom, faultFields, faultFrom, globalFields, ifIdFrom, globalIdFrom}
-use Rattle.korvezul.specs.Messages.{cvRead}
+use Rattle.korvezul.specs.declared.fields.PacketFields.{PacketFields}
+use Rattle.korvezul.specs.declared.readers.CcRead.{CcRead}
+use Rattle.korvezul.specs.declared.readers.CvRead.{CvRead}
+use Rattle.korvezul.specs.Fields.{packetFields, packetFrom, packetMarks, faultFields, faultFrom, globalFields, ifIdFrom, globalIdFrom}
+use Rattle.korvezul.specs.Messages.{ccRead, cvRead, ccWriteRefusal, cvWriteRefusal}
 
 -- a packet in numbers, and back
 pub packet-back : (p : Packet) → packetFrom (packetFields p) ≡ p
 packet-back p =
     rw (bit-back (p .poll) (bitOf (p .poll)) refl, bit-back (p .fin) (bitOf (p .fin)) refl, bit-back (p .independent) (bitOf (p .independent)) refl, bit-back (p .demand) (bitOf (p .demand)) refl)
+
+-- a mark that is not refused
+mark : (x rest : ℕ) → (leb x 1 ≡ true) × (rest ≡ 0) → bitOf (eqb x 1) ≡ x
+mark x rest e = let h = leb-true x 1 (e .0) in bit-again x (omega (arith, h))
+
+-- fields whose marks are not refused, as a packet and back
+pub fields-back : (f : PacketFields) → packetMarks f ≡ 0 → packetFields (packetFrom f) ≡ f
+unfolding packetMarks
+fields-back f e =
+    let p = need-passed (leb (f .poll) 1) 9 _ e in
+    let q = need-passed (leb (f .fin) 1) 9 _ (p .1) in
+    let r = need-passed (leb (f .independent) 1) 9 _ (q .1) in
+    let s = need-passed (leb (f .demand) 1) 9 _ (r .1) in
+    rw (mark (f .poll) _ p, mark (f .fin) _ q, mark (f .independent) _ r, mark (f .demand) _ s)
+
+-- what a host writes, a host reads, whatever stands behind it
+pub cc-there-and-back : (f : PacketFields) (pad : List ℕ) → Sized (packetFrom f) → ccWriteRefusal f ≡ 0
+    → ccRead (readCc (ccOctets (packetFrom f) ++ pad)) ≡ record { answer = 0; packet = f }
+cc-there-and-back f pad s e =
+    let o = orElse-passed (packetMarks f) (ccFieldRefusal (packetFrom f)) e in
+    ap ccRead (bfd.read-written (packetFrom f) pad s (o .1)) ∙ ap {B = CcRead} (λ (g : PacketFields). record { answer = 0; packet = g }) (fields-back f (o .0))
+
+pub cv-there-and-back : (f : PacketFields) (id : MepId) (part : ℕ) (pad : List ℕ) → Sized (packetFrom f) → MepSized id → cvWriteRefusal f id ≡ 0
+    → cvRead part (readCv (cvOctets (packetFrom f) id ++ pad)) ≡ record { answer = 0; part = part; packet = f; mep = id }
+cv-there-and-back f id part pad s t e =
+    let o = orElse-passed (packetMarks f) (cvFieldRefusal (packetFrom f) id) e in
+    ap (cvRead part) (cv.read-written (packetFrom f) id pad s t (o .1)) ∙ ap {B = CvRead} (λ (g : PacketFields). record { answer = 0; part = part; packet = g; mep = id }) (fields-back f (o .0))
 
 if-id-back : (k : ℕ) (i : IfId) → ifIdFrom (keyWith k i .present) (keyWith k i .node) (keyWith k i .interface) ≡ i
 if-id-back k NoIfId = refl

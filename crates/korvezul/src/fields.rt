@@ -1,7 +1,6 @@
 // The fields of a message in numbers alone, so that every bit pattern that a host can hand in is a
 // value: a mark is 0 or 1, and what is above is out of range (10).
 use bfd::Packet;
-use cv::MepId;
 use fault::Fault;
 use fault::GlobalId;
 use fault::IfId;
