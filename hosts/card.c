@@ -45,12 +45,13 @@ static void report(struct end *e) {
     struct korvezul_report r = korvezul_report(e->row, KORVEZUL_RECORDS, &e->head, e->label);
     said(e, "report", e->label, r.answer);
     if (r.answer == KORVEZUL_ACCEPTED)
-        printf("           %s, crossing %d, loss %d, alarm %d, RDI %d, blocked %d, conditions %d\n", states[r.state],
-               r.crossing, r.loss, r.alarm, r.rdi, r.blocked, r.conditions);
+        printf("           %s, crossing %d, loss %d, alarm %d, RDI %d, blocked %d, conditions %d\n",
+               states[r.state], r.crossing, r.loss, r.alarm, r.rdi, r.blocked, r.conditions);
 }
 
 static void receive(struct end *e, const uint8_t *message, size_t n) {
-    said(e, "receive", e->label, korvezul_receive(e->row, KORVEZUL_RECORDS, &e->head, e->label, message, n, now));
+    said(e, "receive", e->label,
+         korvezul_receive(e->row, KORVEZUL_RECORDS, &e->head, e->label, message, n, now));
 }
 
 /* The CC that one end is to send, heard by the other. */
@@ -97,7 +98,8 @@ static struct korvezul_mep_id lsp(uint32_t node) {
     return id;
 }
 
-static void open_session(struct end *e, uint32_t label, uint32_t discriminator, uint32_t own, uint32_t expected) {
+static void open_session(struct end *e, uint32_t label, uint32_t discriminator, uint32_t own,
+                         uint32_t expected) {
     struct korvezul_settings s = {.label = label,
                                   .discriminator = discriminator,
                                   .period = 1000000,
@@ -110,8 +112,14 @@ static void open_session(struct end *e, uint32_t label, uint32_t discriminator, 
 
 /* AIS with link down from a node in between, refreshed every second. */
 static void ais(struct end *to) {
-    struct korvezul_fault f = {
-        .node = 30, .interface_number = 4, .global = 7, .kind = 1, .link = 1, .refresh = 1, .has_if_id = 1, .has_global_id = 1};
+    struct korvezul_fault f = {.node = 30,
+                               .interface_number = 4,
+                               .global = 7,
+                               .kind = 1,
+                               .link = 1,
+                               .refresh = 1,
+                               .has_if_id = 1,
+                               .has_global_id = 1};
     uint8_t m[KORVEZUL_FAULT_OCTETS];
     uint32_t answer = korvezul_write_fault_message(m, sizeof m, f);
     printf("%9" PRIu64 " AIS written: %" PRIu32 "\n", now, answer);
@@ -119,9 +127,7 @@ static void ais(struct end *to) {
     receive(to, m, sizeof m);
 }
 
-static void headline(const char *text) {
-    printf("-- %s\n", text);
-}
+static void headline(const char *text) { printf("-- %s\n", text); }
 
 static void need(int holds, const char *field) {
     if (!holds) {
@@ -134,8 +140,13 @@ static void need(int holds, const char *field) {
 static void check_layout(void) {
     static struct korvezul_session row[KORVEZUL_RECORDS];
     struct korvezul_head head;
-    struct korvezul_settings s = {0x11121, 0x21222324, 0x313233, {1, 0x41424344, 0x45464748, 0x494a4b4c},
-                                  {1, 0x51525354, 0x55565758, 0x595a5b5c}, 1, 0};
+    struct korvezul_settings s = {0x11121,
+                                  0x21222324,
+                                  0x313233,
+                                  {1, 0x41424344, 0x45464748, 0x494a4b4c},
+                                  {1, 0x51525354, 0x55565758, 0x595a5b5c},
+                                  1,
+                                  0};
     struct korvezul_packet p = {.my = 0x61626364, .diagnostic = 9, .state = 1, .multiplier = 5, .poll = 1};
     struct korvezul_fault f = {0x71727374, 0x75767778, 0, 2, 1, 0, 20, 1, 0};
     uint8_t m[KORVEZUL_CC_OCTETS], n[KORVEZUL_FAULT_OCTETS];
@@ -149,16 +160,23 @@ static void check_layout(void) {
     need(korvezul_write_cc_message(m, sizeof m, p) == 0, "CC");
     need(korvezul_receive(row, KORVEZUL_RECORDS, &head, s.label, m, sizeof m, 0x010204) == 0, "heard CC");
     need(row[0].timed == 0x010204 && row[0].state == 2, "timed, state of one that heard");
-    need(row[0].peer.remote == p.my && row[0].peer.multiplier == 5 && row[0].peer.diagnostic == 9 && row[0].peer.owed == 1, "peer");
+    need(row[0].peer.remote == p.my && row[0].peer.multiplier == 5 && row[0].peer.diagnostic == 9 &&
+             row[0].peer.owed == 1,
+         "peer");
     need(korvezul_write_fault_message(n, 19, f) == 0, "LKR");
     need(korvezul_receive(row, KORVEZUL_RECORDS, &head, s.label, n, 19, 0x010205) == 0, "taken LKR");
-    need(row[0].conditions[0].at == 0x010205 && row[0].conditions[0].refresh == 20 && row[0].conditions[0].link == 1, "condition");
-    need(row[0].conditions[0].key.node == f.node && row[0].conditions[0].key.interface_number == f.interface_number &&
-             row[0].conditions[0].key.kind == 2 && row[0].conditions[0].key.present == 1, "key");
+    need(row[0].conditions[0].at == 0x010205 && row[0].conditions[0].refresh == 20 &&
+             row[0].conditions[0].link == 1,
+         "condition");
+    need(row[0].conditions[0].key.node == f.node &&
+             row[0].conditions[0].key.interface_number == f.interface_number &&
+             row[0].conditions[0].key.kind == 2 && row[0].conditions[0].key.present == 1,
+         "key");
     need(row[0].conditions[1].key.kind == 0 && row[0].conditions[3].key.kind == 0, "empty conditions");
     p.your = 1;
     need(korvezul_write_cc_message(m, sizeof m, p) == 0, "crossed CC");
-    need(korvezul_receive(row, KORVEZUL_RECORDS, &head, s.label, m, sizeof m, 0x010206) == 0, "crossed CC taken");
+    need(korvezul_receive(row, KORVEZUL_RECORDS, &head, s.label, m, sizeof m, 0x010206) == 0,
+         "crossed CC taken");
     need(row[0].crossed == 0x010206 && row[0].crossing == 1, "crossed, crossing");
     need(((const unsigned char *)&row[1])[0] == 0xa5, "a record next to it");
     printf("layout: every field is where the header has it\n");
@@ -166,22 +184,31 @@ static void check_layout(void) {
 
 /* Every field of a message, told apart by the octets that it becomes, and read back from them. */
 static void check_octets(void) {
-    static const uint8_t cv_octets[] = {0x10, 0,    0,    0x23, 0x3f, 0xa8, 0x15, 0x18, 0x01, 0x02, 0x03, 0x04, 0x05, 0x06, 0x07,
-                                        0x08, 0x09, 0x0a, 0x0b, 0x0c, 0x0d, 0x0e, 0x0f, 0x10, 0x11, 0x12, 0x13, 0x14, 0,    1,
-                                        0,    0x0c, 0x21, 0x22, 0x23, 0x24, 0x25, 0x26, 0x27, 0x28, 0x29, 0x2a, 0x2b, 0x2c};
-    static const uint8_t fault_octets[] = {0x10, 0, 0, 0x58, 0x10, 2, 2, 0x14, 0x0a, 1, 8, 0x31, 0x32, 0x33, 0x34, 0x35, 0x36, 0x37, 0x38};
-    static const uint8_t removed_octets[] = {0x10, 0, 0, 0x58, 0x10, 1, 1, 0x05, 0x06, 2, 4, 0x39, 0x3a, 0x3b, 0x3c};
-    struct korvezul_packet p = {0x01020304, 0x05060708, 0x090a0b0c, 0x0d0e0f10, 0x11121314, 0x1f, 2, 0x15, 1, 0, 1, 0};
+    static const uint8_t cv_octets[] = {0x10, 0,    0,    0x23, 0x3f, 0xa8, 0x15, 0x18, 0x01, 0x02, 0x03,
+                                        0x04, 0x05, 0x06, 0x07, 0x08, 0x09, 0x0a, 0x0b, 0x0c, 0x0d, 0x0e,
+                                        0x0f, 0x10, 0x11, 0x12, 0x13, 0x14, 0,    1,    0,    0x0c, 0x21,
+                                        0x22, 0x23, 0x24, 0x25, 0x26, 0x27, 0x28, 0x29, 0x2a, 0x2b, 0x2c};
+    static const uint8_t fault_octets[] = {0x10, 0,    0,    0x58, 0x10, 2,    2,    0x14, 0x0a, 1,
+                                           8,    0x31, 0x32, 0x33, 0x34, 0x35, 0x36, 0x37, 0x38};
+    static const uint8_t removed_octets[] = {0x10, 0, 0, 0x58, 0x10, 1,    1,   0x05,
+                                             0x06, 2, 4, 0x39, 0x3a, 0x3b, 0x3c};
+    struct korvezul_packet p = {0x01020304, 0x05060708, 0x090a0b0c, 0x0d0e0f10, 0x11121314, 0x1f,
+                                2,          0x15,       1,          0,          1,          0};
     struct korvezul_mep_id id = {1, 0x21222324, 0x25262728, 0x292a2b2c};
-    struct korvezul_fault f = {0x31323334, 0x35363738, 0, 2, 1, 0, 0x14, 1, 0}, r = {0, 0, 0x393a3b3c, 1, 0, 1, 5, 0, 1};
+    struct korvezul_fault f = {0x31323334, 0x35363738, 0, 2, 1, 0, 0x14, 1, 0},
+                          r = {0, 0, 0x393a3b3c, 1, 0, 1, 5, 0, 1};
     struct korvezul_cv_read v = korvezul_read_cv(cv_octets, sizeof cv_octets);
     struct korvezul_fault_read w = korvezul_read_fault(fault_octets, sizeof fault_octets);
     uint8_t m[KORVEZUL_CV_OCTETS];
     need(korvezul_write_cv_message(m, sizeof m, p, id) == 0 && memcmp(m, cv_octets, 44) == 0, "CV written");
-    need(v.answer == 0 && v.part == 28 && memcmp(&v.packet, &p, offsetof(struct korvezul_packet, demand) + 1) == 0, "packet read");
-    need(v.mep.kind == 1 && v.mep.global == id.global && v.mep.node == id.node && v.mep.local == id.local, "MEP-ID read");
+    need(v.answer == 0 && v.part == 28 &&
+             memcmp(&v.packet, &p, offsetof(struct korvezul_packet, demand) + 1) == 0,
+         "packet read");
+    need(v.mep.kind == 1 && v.mep.global == id.global && v.mep.node == id.node && v.mep.local == id.local,
+         "MEP-ID read");
     need(korvezul_write_fault_message(m, 19, f) == 0 && memcmp(m, fault_octets, 19) == 0, "LKR written");
-    need(w.answer == 0 && memcmp(&w.fault, &f, offsetof(struct korvezul_fault, has_global_id) + 1) == 0, "LKR read");
+    need(w.answer == 0 && memcmp(&w.fault, &f, offsetof(struct korvezul_fault, has_global_id) + 1) == 0,
+         "LKR read");
     need(korvezul_write_fault_message(m, 15, r) == 0 && memcmp(m, removed_octets, 15) == 0, "AIS written");
     p.state = 3;
     p.poll = p.independent = 0;
@@ -194,23 +221,37 @@ static void check_octets(void) {
 static void messages(void) {
     static const struct korvezul_packet none;
     uint8_t cc[KORVEZUL_CC_OCTETS], cv[KORVEZUL_CV_OCTETS + 3] = {0}, fault[KORVEZUL_FAULT_OCTETS];
-    struct korvezul_packet p = {.my = 17, .your = 34, .transmit = 1000000, .receive = 1000000, .echo = 0, .diagnostic = 3, .state = 3, .multiplier = 3, .final = 1};
+    struct korvezul_packet p = {.my = 17,
+                                .your = 34,
+                                .transmit = 1000000,
+                                .receive = 1000000,
+                                .echo = 0,
+                                .diagnostic = 3,
+                                .state = 3,
+                                .multiplier = 3,
+                                .final = 1};
     struct korvezul_fault f = {.kind = 2, .refresh = 20, .removed = 1, .global = 9, .has_global_id = 1};
     struct korvezul_cc_read r;
     struct korvezul_cv_read v;
     struct korvezul_fault_read w;
     printf("write CC: %" PRIu32, korvezul_write_cc_message(cc, sizeof cc, p));
     r = korvezul_read_cc(cc, sizeof cc);
-    printf(", read: %" PRIu32 ", my %" PRIu32 ", your %" PRIu32 ", state %d, diagnostic %d, F %d\n", r.answer, r.packet.my, r.packet.your, r.packet.state, r.packet.diagnostic, r.packet.final);
+    printf(", read: %" PRIu32 ", my %" PRIu32 ", your %" PRIu32 ", state %d, diagnostic %d, F %d\n", r.answer,
+           r.packet.my, r.packet.your, r.packet.state, r.packet.diagnostic, r.packet.final);
     printf("write CV: %" PRIu32, korvezul_write_cv_message(cv, sizeof cv, p, lsp(20)));
     v = korvezul_read_cv(cv, sizeof cv);
-    printf(", read: %" PRIu32 ", node %" PRIu32 ", part from octet %" PRIu32 "\n", v.answer, v.mep.node, v.part);
+    printf(", read: %" PRIu32 ", node %" PRIu32 ", part from octet %" PRIu32 "\n", v.answer, v.mep.node,
+           v.part);
     octets(cv + v.part, 16);
     printf("write LKR: %" PRIu32, korvezul_write_fault_message(fault, sizeof fault, f));
     w = korvezul_read_fault(fault, 15);
-    printf(", read: %" PRIu32 ", type %d, R %d, refresh %d, IF_ID %d, Global_ID %d: %" PRIu32 "\n", w.answer, w.fault.kind, w.fault.removed, w.fault.refresh, w.fault.has_if_id, w.fault.has_global_id, w.fault.global);
+    printf(", read: %" PRIu32 ", type %d, R %d, refresh %d, IF_ID %d, Global_ID %d: %" PRIu32 "\n", w.answer,
+           w.fault.kind, w.fault.removed, w.fault.refresh, w.fault.has_if_id, w.fault.has_global_id,
+           w.fault.global);
     r = korvezul_read_cc(cc, 27);
-    printf("CC of 27 octets: %" PRIu32 ", and %s\n", r.answer, memcmp(&r.packet, &none, offsetof(struct korvezul_packet, demand) + 1) == 0 ? "noughts" : "something");
+    printf("CC of 27 octets: %" PRIu32 ", and %s\n", r.answer,
+           memcmp(&r.packet, &none, offsetof(struct korvezul_packet, demand) + 1) == 0 ? "noughts"
+                                                                                       : "something");
     printf("CC read as a CV: %" PRIu32 "\n", korvezul_read_cv(cc, sizeof cc).answer);
     printf("CC into 27 octets: %" PRIu32 "\n", korvezul_write_cc_message(cc, 27, p));
     p.poll = 2;

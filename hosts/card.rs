@@ -138,25 +138,87 @@ struct FaultRead {
 
 // The layout that the library was compiled with.
 const _: () = {
-    assert!(size_of::<Session>() == 176 && align_of::<Session>() == 8 && offset_of!(Session, settings) == 112);
-    assert!(offset_of!(Session, peer) == 160 && offset_of!(Session, state) == 168 && size_of::<Settings>() == 48);
-    assert!(size_of::<Condition>() == 24 && offset_of!(Condition, refresh) == 20 && size_of::<Head>() == 16);
+    assert!(
+        size_of::<Session>() == 176
+            && align_of::<Session>() == 8
+            && offset_of!(Session, settings) == 112
+    );
+    assert!(
+        offset_of!(Session, peer) == 160
+            && offset_of!(Session, state) == 168
+            && size_of::<Settings>() == 48
+    );
+    assert!(
+        size_of::<Condition>() == 24
+            && offset_of!(Condition, refresh) == 20
+            && size_of::<Head>() == 16
+    );
     assert!(size_of::<Report>() == 12 && size_of::<Packet>() == 28 && size_of::<Fault>() == 20);
     assert!(size_of::<CcRead>() == 32 && size_of::<CvRead>() == 52 && size_of::<FaultRead>() == 24);
-    assert!(offset_of!(CvRead, mep) == 36 && offset_of!(CcRead, packet) == 4 && offset_of!(CvRead, packet) == 8);
+    assert!(
+        offset_of!(CvRead, mep) == 36
+            && offset_of!(CcRead, packet) == 4
+            && offset_of!(CvRead, packet) == 8
+    );
 };
 
 extern "C" {
     fn korvezul_empty(row: *const Session, records: usize, head: *mut Head) -> u32;
-    fn korvezul_open(row: *mut Session, records: usize, head: *mut Head, settings: Settings, reading: u64) -> u32;
-    fn korvezul_close(row: *mut Session, records: usize, head: *mut Head, label: u32, reading: u64) -> u32;
-    fn korvezul_lock(row: *mut Session, records: usize, head: *mut Head, label: u32, reading: u64) -> u32;
-    fn korvezul_unlock(row: *mut Session, records: usize, head: *mut Head, label: u32, reading: u64) -> u32;
-    fn korvezul_receive(row: *mut Session, records: usize, head: *mut Head, label: u32, message: *const u8, octets: usize, reading: u64) -> u32;
+    fn korvezul_open(
+        row: *mut Session,
+        records: usize,
+        head: *mut Head,
+        settings: Settings,
+        reading: u64,
+    ) -> u32;
+    fn korvezul_close(
+        row: *mut Session,
+        records: usize,
+        head: *mut Head,
+        label: u32,
+        reading: u64,
+    ) -> u32;
+    fn korvezul_lock(
+        row: *mut Session,
+        records: usize,
+        head: *mut Head,
+        label: u32,
+        reading: u64,
+    ) -> u32;
+    fn korvezul_unlock(
+        row: *mut Session,
+        records: usize,
+        head: *mut Head,
+        label: u32,
+        reading: u64,
+    ) -> u32;
+    fn korvezul_receive(
+        row: *mut Session,
+        records: usize,
+        head: *mut Head,
+        label: u32,
+        message: *const u8,
+        octets: usize,
+        reading: u64,
+    ) -> u32;
     fn korvezul_tick(row: *mut Session, records: usize, head: *mut Head, reading: u64) -> u32;
     fn korvezul_report(row: *mut Session, records: usize, head: *mut Head, label: u32) -> Report;
-    fn korvezul_write_cc(row: *mut Session, records: usize, head: *mut Head, label: u32, buffer: *mut u8, size: usize) -> u32;
-    fn korvezul_write_cv(row: *mut Session, records: usize, head: *mut Head, label: u32, buffer: *mut u8, size: usize) -> u32;
+    fn korvezul_write_cc(
+        row: *mut Session,
+        records: usize,
+        head: *mut Head,
+        label: u32,
+        buffer: *mut u8,
+        size: usize,
+    ) -> u32;
+    fn korvezul_write_cv(
+        row: *mut Session,
+        records: usize,
+        head: *mut Head,
+        label: u32,
+        buffer: *mut u8,
+        size: usize,
+    ) -> u32;
     fn korvezul_read_cc(message: *const u8, octets: usize) -> CcRead;
     fn korvezul_read_cv(message: *const u8, octets: usize) -> CvRead;
     fn korvezul_read_fault(message: *const u8, octets: usize) -> FaultRead;
@@ -174,13 +236,24 @@ struct Table {
 
 impl Table {
     fn new() -> Table {
-        Table { row: [Session::default(); RECORDS], head: Head::default() }
+        Table {
+            row: [Session::default(); RECORDS],
+            head: Head::default(),
+        }
     }
     fn empty(&mut self) -> u32 {
         unsafe { korvezul_empty(self.row.as_ptr(), RECORDS, &mut self.head) }
     }
     fn open(&mut self, settings: Settings, reading: u64) -> u32 {
-        unsafe { korvezul_open(self.row.as_mut_ptr(), RECORDS, &mut self.head, settings, reading) }
+        unsafe {
+            korvezul_open(
+                self.row.as_mut_ptr(),
+                RECORDS,
+                &mut self.head,
+                settings,
+                reading,
+            )
+        }
     }
     /// Close, of the first records of the row.
     fn close(&mut self, records: usize, label: u32, reading: u64) -> u32 {
@@ -188,13 +261,39 @@ impl Table {
         unsafe { korvezul_close(row.as_mut_ptr(), row.len(), &mut self.head, label, reading) }
     }
     fn lock(&mut self, label: u32, reading: u64) -> u32 {
-        unsafe { korvezul_lock(self.row.as_mut_ptr(), RECORDS, &mut self.head, label, reading) }
+        unsafe {
+            korvezul_lock(
+                self.row.as_mut_ptr(),
+                RECORDS,
+                &mut self.head,
+                label,
+                reading,
+            )
+        }
     }
     fn unlock(&mut self, label: u32, reading: u64) -> u32 {
-        unsafe { korvezul_unlock(self.row.as_mut_ptr(), RECORDS, &mut self.head, label, reading) }
+        unsafe {
+            korvezul_unlock(
+                self.row.as_mut_ptr(),
+                RECORDS,
+                &mut self.head,
+                label,
+                reading,
+            )
+        }
     }
     fn receive(&mut self, label: u32, message: &[u8], reading: u64) -> u32 {
-        unsafe { korvezul_receive(self.row.as_mut_ptr(), RECORDS, &mut self.head, label, message.as_ptr(), message.len(), reading) }
+        unsafe {
+            korvezul_receive(
+                self.row.as_mut_ptr(),
+                RECORDS,
+                &mut self.head,
+                label,
+                message.as_ptr(),
+                message.len(),
+                reading,
+            )
+        }
     }
     fn tick(&mut self, reading: u64) -> u32 {
         unsafe { korvezul_tick(self.row.as_mut_ptr(), RECORDS, &mut self.head, reading) }
@@ -203,10 +302,28 @@ impl Table {
         unsafe { korvezul_report(self.row.as_mut_ptr(), RECORDS, &mut self.head, label) }
     }
     fn write_cc(&mut self, label: u32, buffer: &mut [u8]) -> u32 {
-        unsafe { korvezul_write_cc(self.row.as_mut_ptr(), RECORDS, &mut self.head, label, buffer.as_mut_ptr(), buffer.len()) }
+        unsafe {
+            korvezul_write_cc(
+                self.row.as_mut_ptr(),
+                RECORDS,
+                &mut self.head,
+                label,
+                buffer.as_mut_ptr(),
+                buffer.len(),
+            )
+        }
     }
     fn write_cv(&mut self, label: u32, buffer: &mut [u8]) -> u32 {
-        unsafe { korvezul_write_cv(self.row.as_mut_ptr(), RECORDS, &mut self.head, label, buffer.as_mut_ptr(), buffer.len()) }
+        unsafe {
+            korvezul_write_cv(
+                self.row.as_mut_ptr(),
+                RECORDS,
+                &mut self.head,
+                label,
+                buffer.as_mut_ptr(),
+                buffer.len(),
+            )
+        }
     }
 }
 
@@ -246,7 +363,15 @@ impl End {
         println!("{now:9} {} {call}: {answer}", self.name);
     }
     fn open(&mut self, now: u64, label: u32, discriminator: u32, own: u32, expected: u32) {
-        let settings = Settings { label, discriminator, period: 1000000, own: lsp(own), expected: lsp(expected), link: 1, lock: 0 };
+        let settings = Settings {
+            label,
+            discriminator,
+            period: 1000000,
+            own: lsp(own),
+            expected: lsp(expected),
+            link: 1,
+            lock: 0,
+        };
         let answer = self.table.open(settings, now);
         self.said(now, &format!("open {label}"), answer);
     }
@@ -272,7 +397,10 @@ impl End {
 }
 
 fn octets(o: &[u8]) {
-    println!("           {}", o.iter().map(|x| format!("{x:02x}")).collect::<String>());
+    println!(
+        "           {}",
+        o.iter().map(|x| format!("{x:02x}")).collect::<String>()
+    );
 }
 
 /// The CC that one end is to send, heard by the other.
@@ -312,12 +440,27 @@ fn exchange(from: u64, to: u64, a: &mut End, b: &mut End) {
 }
 
 fn lsp(node: u32) -> MepId {
-    MepId { kind: 1, global: 7, node, local: 0x00050001 }
+    MepId {
+        kind: 1,
+        global: 7,
+        node,
+        local: 0x00050001,
+    }
 }
 
 /// AIS with link down from a node in between, refreshed every second.
 fn ais(now: u64, to: &mut End) {
-    let f = Fault { node: 30, interface: 4, global: 7, kind: 1, link: 1, removed: 0, refresh: 1, has_if_id: 1, has_global_id: 1 };
+    let f = Fault {
+        node: 30,
+        interface: 4,
+        global: 7,
+        kind: 1,
+        link: 1,
+        removed: 0,
+        refresh: 1,
+        has_if_id: 1,
+        has_global_id: 1,
+    };
     let mut m = [0; 25];
     println!("{now:9} AIS written: {}", write_fault_message(&mut m, f));
     octets(&m);
@@ -327,24 +470,116 @@ fn ais(now: u64, to: &mut End) {
 /// Every field of a record, as the library stored it, read through the declarations above.
 fn check_layout() {
     let mut t = Table::new();
-    let own = MepId { kind: 1, global: 0x41424344, node: 0x45464748, local: 0x494a4b4c };
-    let expected = MepId { kind: 1, global: 0x51525354, node: 0x55565758, local: 0x595a5b5c };
-    let s = Settings { label: 0x11121, discriminator: 0x21222324, period: 0x313233, own, expected, link: 1, lock: 0 };
+    let own = MepId {
+        kind: 1,
+        global: 0x41424344,
+        node: 0x45464748,
+        local: 0x494a4b4c,
+    };
+    let expected = MepId {
+        kind: 1,
+        global: 0x51525354,
+        node: 0x55565758,
+        local: 0x595a5b5c,
+    };
+    let s = Settings {
+        label: 0x11121,
+        discriminator: 0x21222324,
+        period: 0x313233,
+        own,
+        expected,
+        link: 1,
+        lock: 0,
+    };
     assert_eq!((t.empty(), t.open(s, 0x010203)), (0, 0));
-    let mut p = Packet { my: 0x61626364, diagnostic: 9, state: 1, multiplier: 5, poll: 1, ..Packet::default() };
+    let mut p = Packet {
+        my: 0x61626364,
+        diagnostic: 9,
+        state: 1,
+        multiplier: 5,
+        poll: 1,
+        ..Packet::default()
+    };
     let (mut cc, mut lkr) = ([0; 28], [0; 19]);
-    assert_eq!((write_cc_message(&mut cc, p), t.receive(s.label, &cc, 0x010204)), (0, 0));
-    let f = Fault { node: 0x71727374, interface: 0x75767778, kind: 2, link: 1, refresh: 20, has_if_id: 1, ..Fault::default() };
-    assert_eq!((write_fault_message(&mut lkr, f), t.receive(s.label, &lkr, 0x010205)), (0, 0));
+    assert_eq!(
+        (
+            write_cc_message(&mut cc, p),
+            t.receive(s.label, &cc, 0x010204)
+        ),
+        (0, 0)
+    );
+    let f = Fault {
+        node: 0x71727374,
+        interface: 0x75767778,
+        kind: 2,
+        link: 1,
+        refresh: 20,
+        has_if_id: 1,
+        ..Fault::default()
+    };
+    assert_eq!(
+        (
+            write_fault_message(&mut lkr, f),
+            t.receive(s.label, &lkr, 0x010205)
+        ),
+        (0, 0)
+    );
     p.your = 1;
-    assert_eq!((write_cc_message(&mut cc, p), t.receive(s.label, &cc, 0x010206)), (0, 0));
+    assert_eq!(
+        (
+            write_cc_message(&mut cc, p),
+            t.receive(s.label, &cc, 0x010206)
+        ),
+        (0, 0)
+    );
     let (r, c) = (t.row[0], t.row[0].conditions[0]);
-    assert_eq!((t.head.clock, t.head.occupied, r.timed, r.crossed, r.state, r.crossing), (0x010206, 1, 0x010204, 0x010206, 2, 1));
-    assert_eq!((r.peer.remote, r.peer.multiplier, r.peer.diagnostic, r.peer.owed), (p.my, 5, 9, 1));
-    assert_eq!((c.at, c.key.node, c.key.interface, c.key.kind, c.key.present, c.refresh, c.link), (0x010205, f.node, f.interface, 2, 1, 20, 1));
-    assert_eq!((r.settings.label, r.settings.discriminator, r.settings.period, r.settings.link, r.settings.lock), (s.label, s.discriminator, s.period, 1, 0));
+    assert_eq!(
+        (
+            t.head.clock,
+            t.head.occupied,
+            r.timed,
+            r.crossed,
+            r.state,
+            r.crossing
+        ),
+        (0x010206, 1, 0x010204, 0x010206, 2, 1)
+    );
+    assert_eq!(
+        (
+            r.peer.remote,
+            r.peer.multiplier,
+            r.peer.diagnostic,
+            r.peer.owed
+        ),
+        (p.my, 5, 9, 1)
+    );
+    assert_eq!(
+        (
+            c.at,
+            c.key.node,
+            c.key.interface,
+            c.key.kind,
+            c.key.present,
+            c.refresh,
+            c.link
+        ),
+        (0x010205, f.node, f.interface, 2, 1, 20, 1)
+    );
+    assert_eq!(
+        (
+            r.settings.label,
+            r.settings.discriminator,
+            r.settings.period,
+            r.settings.link,
+            r.settings.lock
+        ),
+        (s.label, s.discriminator, s.period, 1, 0)
+    );
     for (x, y) in [(r.settings.own, own), (r.settings.expected, expected)] {
-        assert_eq!((x.kind, x.global, x.node, x.local), (y.kind, y.global, y.node, y.local));
+        assert_eq!(
+            (x.kind, x.global, x.node, x.local),
+            (y.kind, y.global, y.node, y.local)
+        );
     }
     println!("layout: every field is where the header has it");
 }
@@ -365,51 +600,138 @@ fn check_octets() {
         independent: 1,
         demand: 0,
     };
-    let id = MepId { kind: 1, global: 0x21222324, node: 0x25262728, local: 0x292a2b2c };
+    let id = MepId {
+        kind: 1,
+        global: 0x21222324,
+        node: 0x25262728,
+        local: 0x292a2b2c,
+    };
     let mut cv = [0; 44];
     assert_eq!(write_cv_message(&mut cv, p, id), 0);
     let head = [0x10, 0, 0, 0x23, 0x3f, 0xa8, 0x15, 0x18];
-    assert!(cv[..8] == head && (8..28).all(|i| cv[i] as usize == i - 7) && cv[28..32] == [0, 1, 0, 12]);
+    assert!(
+        cv[..8] == head && (8..28).all(|i| cv[i] as usize == i - 7) && cv[28..32] == [0, 1, 0, 12]
+    );
     assert!((32..44).all(|i| cv[i] as usize == i + 1));
     let v = read_cv(&cv);
     assert!(v.answer == 0 && v.part == 28 && v.packet == p);
-    assert_eq!((v.mep.kind, v.mep.global, v.mep.node, v.mep.local), (id.kind, id.global, id.node, id.local));
+    assert_eq!(
+        (v.mep.kind, v.mep.global, v.mep.node, v.mep.local),
+        (id.kind, id.global, id.node, id.local)
+    );
     let mut m = [0; 28];
-    let other = Packet { state: 3, poll: 0, independent: 0, fin: 1, demand: 1, ..p };
+    let other = Packet {
+        state: 3,
+        poll: 0,
+        independent: 0,
+        fin: 1,
+        demand: 1,
+        ..p
+    };
     assert_eq!((write_cc_message(&mut m, other), m[5]), (0, 0xd2));
-    let lkr = Fault { node: 0x31323334, interface: 0x35363738, kind: 2, link: 1, refresh: 20, has_if_id: 1, ..Fault::default() };
+    let lkr = Fault {
+        node: 0x31323334,
+        interface: 0x35363738,
+        kind: 2,
+        link: 1,
+        refresh: 20,
+        has_if_id: 1,
+        ..Fault::default()
+    };
     let mut o = [0; 25];
     assert_eq!(write_fault_message(&mut o, lkr), 0);
-    assert_eq!(o[..19], [0x10, 0, 0, 0x58, 0x10, 2, 2, 20, 10, 1, 8, 0x31, 0x32, 0x33, 0x34, 0x35, 0x36, 0x37, 0x38]);
+    assert_eq!(
+        o[..19],
+        [
+            0x10, 0, 0, 0x58, 0x10, 2, 2, 20, 10, 1, 8, 0x31, 0x32, 0x33, 0x34, 0x35, 0x36, 0x37,
+            0x38
+        ]
+    );
     let w = read_fault(&o[..19]);
-    assert_eq!((w.answer, w.fault.node, w.fault.interface, w.fault.kind, w.fault.link), (0, lkr.node, lkr.interface, 2, 1));
-    let ais = Fault { global: 0x393a3b3c, kind: 1, removed: 1, refresh: 5, has_global_id: 1, ..Fault::default() };
+    assert_eq!(
+        (
+            w.answer,
+            w.fault.node,
+            w.fault.interface,
+            w.fault.kind,
+            w.fault.link
+        ),
+        (0, lkr.node, lkr.interface, 2, 1)
+    );
+    let ais = Fault {
+        global: 0x393a3b3c,
+        kind: 1,
+        removed: 1,
+        refresh: 5,
+        has_global_id: 1,
+        ..Fault::default()
+    };
     assert_eq!(write_fault_message(&mut o, ais), 0);
-    assert_eq!(o[..15], [0x10, 0, 0, 0x58, 0x10, 1, 1, 5, 6, 2, 4, 0x39, 0x3a, 0x3b, 0x3c]);
+    assert_eq!(
+        o[..15],
+        [0x10, 0, 0, 0x58, 0x10, 1, 1, 5, 6, 2, 4, 0x39, 0x3a, 0x3b, 0x3c]
+    );
     println!("layout: every field of a message becomes its octets");
 }
 
 /// The readers and writers of messages alone.
 fn messages() {
     let (mut cc, mut cv, mut fault) = ([0; 28], [0; 47], [0; 25]);
-    let mut p = Packet { my: 17, your: 34, transmit: 1000000, receive: 1000000, diagnostic: 3, state: 3, multiplier: 3, fin: 1, ..Packet::default() };
-    let f = Fault { kind: 2, refresh: 20, removed: 1, global: 9, has_global_id: 1, ..Fault::default() };
+    let mut p = Packet {
+        my: 17,
+        your: 34,
+        transmit: 1000000,
+        receive: 1000000,
+        diagnostic: 3,
+        state: 3,
+        multiplier: 3,
+        fin: 1,
+        ..Packet::default()
+    };
+    let f = Fault {
+        kind: 2,
+        refresh: 20,
+        removed: 1,
+        global: 9,
+        has_global_id: 1,
+        ..Fault::default()
+    };
     print!("write CC: {}", write_cc_message(&mut cc, p));
     let r = read_cc(&cc);
-    println!(", read: {}, my {}, your {}, state {}, diagnostic {}, F {}", r.answer, r.packet.my, r.packet.your, r.packet.state, r.packet.diagnostic, r.packet.fin);
+    println!(
+        ", read: {}, my {}, your {}, state {}, diagnostic {}, F {}",
+        r.answer, r.packet.my, r.packet.your, r.packet.state, r.packet.diagnostic, r.packet.fin
+    );
     print!("write CV: {}", write_cv_message(&mut cv, p, lsp(20)));
     let v = read_cv(&cv);
     assert!(v.packet == p);
-    println!(", read: {}, node {}, part from octet {}", v.answer, v.mep.node, v.part);
+    println!(
+        ", read: {}, node {}, part from octet {}",
+        v.answer, v.mep.node, v.part
+    );
     octets(&cv[v.part as usize..v.part as usize + 16]);
     print!("write LKR: {}", write_fault_message(&mut fault, f));
     let w = read_fault(&fault[..15]);
     println!(
         ", read: {}, type {}, R {}, refresh {}, IF_ID {}, Global_ID {}: {}",
-        w.answer, w.fault.kind, w.fault.removed, w.fault.refresh, w.fault.has_if_id, w.fault.has_global_id, w.fault.global
+        w.answer,
+        w.fault.kind,
+        w.fault.removed,
+        w.fault.refresh,
+        w.fault.has_if_id,
+        w.fault.has_global_id,
+        w.fault.global
     );
     let r = read_cc(&cc[..27]);
-    println!("CC of 27 octets: {}, and {}", r.answer, if r.packet == Packet::default() { "noughts" } else { "something" });
+    println!(
+        "CC of 27 octets: {}, and {}",
+        r.answer,
+        if r.packet == Packet::default() {
+            "noughts"
+        } else {
+            "something"
+        }
+    );
     println!("CC read as a CV: {}", read_cv(&cc).answer);
     println!("CC into 27 octets: {}", write_cc_message(&mut cc[..27], p));
     p.poll = 2;
@@ -419,8 +741,16 @@ fn messages() {
 fn main() {
     check_layout();
     check_octets();
-    let mut a = End { name: 'A', table: Table::new(), label: 100 };
-    let mut b = End { name: 'B', table: Table::new(), label: 200 };
+    let mut a = End {
+        name: 'A',
+        table: Table::new(),
+        label: 100,
+    };
+    let mut b = End {
+        name: 'B',
+        table: Table::new(),
+        label: 200,
+    };
     println!("-- two tables made empty, a session opened in each");
     for e in [&mut a, &mut b] {
         let answer = e.table.empty();
@@ -441,14 +771,18 @@ fn main() {
     a.open(3000000, 101, 18, 11, 21);
     pass_cv(3000000, &mut a, 101, &mut b);
     b.report(3000000);
-    println!("-- set right again: both come up, and B is free 3.5 seconds after the crossed message");
+    println!(
+        "-- set right again: both come up, and B is free 3.5 seconds after the crossed message"
+    );
     exchange(3000000, 6000000, &mut a, &mut b);
     b.report(6000000);
     for now in [6499999, 6500000] {
         b.tick(now);
         b.report(now);
     }
-    println!("-- the wire is cut: no loss at 3 periods, a loss and its alarm one microsecond later");
+    println!(
+        "-- the wire is cut: no loss at 3 periods, a loss and its alarm one microsecond later"
+    );
     a.tick(9000000);
     a.report(9000000);
     a.tick(9000001);
@@ -479,7 +813,11 @@ fn main() {
     a.report(17000000);
     b.report(17000000);
     println!("-- refusals");
-    for (now, records) in [(16999999, RECORDS), (17000000, RECORDS - 1), (17000000, RECORDS)] {
+    for (now, records) in [
+        (16999999, RECORDS),
+        (17000000, RECORDS - 1),
+        (17000000, RECORDS),
+    ] {
         let answer = a.table.close(records, 100, now);
         a.said(now, "close 100", answer);
     }

@@ -29,9 +29,7 @@ static void accepted(uint32_t answer) {
     }
 }
 
-static uint32_t label_of(unsigned i) {
-    return worst ? 16 + 1024 * i : 100 + i;
-}
+static uint32_t label_of(unsigned i) { return worst ? 16 + 1024 * i : 100 + i; }
 
 static struct korvezul_settings settings_of(unsigned i) {
     struct korvezul_settings s = {label_of(i), label_of(i), 10000000, {1, 7, 10, i}, {1, 7, 20, i}, 1, 1};
@@ -112,11 +110,25 @@ static uint32_t fault_message(void) { return korvezul_write_fault_message(buffer
 static const struct {
     const char *name;
     uint32_t (*call)(void);
-} calls[] = {{"none", none}, {"empty", empty}, {"tick", tick}, {"open", open_one}, {"close", close_one}, {"lock", lock},
-             {"unlock", unlock}, {"receive-cc", receive_cc}, {"receive-cv", receive_cv}, {"receive-fault", receive_fault},
-             {"report", report}, {"write-cc", cc_of_session}, {"write-cv", cv_of_session}, {"read-cc", read_cc},
-             {"read-cv", read_cv}, {"read-fault", read_fault}, {"write-cc-message", cc_message},
-             {"write-cv-message", cv_message}, {"write-fault-message", fault_message}};
+} calls[] = {{"none", none},
+             {"empty", empty},
+             {"tick", tick},
+             {"open", open_one},
+             {"close", close_one},
+             {"lock", lock},
+             {"unlock", unlock},
+             {"receive-cc", receive_cc},
+             {"receive-cv", receive_cv},
+             {"receive-fault", receive_fault},
+             {"report", report},
+             {"write-cc", cc_of_session},
+             {"write-cv", cv_of_session},
+             {"read-cc", read_cc},
+             {"read-cv", read_cv},
+             {"read-fault", read_fault},
+             {"write-cc-message", cc_message},
+             {"write-cv-message", cv_message},
+             {"write-fault-message", fault_message}};
 
 static uint32_t (*measured)(void);
 
@@ -132,9 +144,7 @@ static void choose(const char *name) {
 static ucontext_t outside, inside;
 static uint32_t answer;
 
-static void on_its_own(void) {
-    answer = measured();
-}
+static void on_its_own(void) { answer = measured(); }
 
 static uint8_t stack[STACK];
 

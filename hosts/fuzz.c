@@ -53,13 +53,9 @@ static uint64_t any(void) {
     return seed * UINT64_C(2685821657736338717);
 }
 
-static uint64_t below(uint64_t n) {
-    return (any() >> 16) % n;
-}
+static uint64_t below(uint64_t n) { return (any() >> 16) % n; }
 
-static int once_in(uint64_t n) {
-    return below(n) == 0;
-}
+static int once_in(uint64_t n) { return below(n) == 0; }
 
 static void fill(void *at, size_t n) {
     uint8_t *o = at;
@@ -71,7 +67,8 @@ static void fill(void *at, size_t n) {
 
 enum kind { TICK, OPEN, CLOSE, LOCK, UNLOCK, RECEIVE, REPORT, WRITE_CC, WRITE_CV, EMPTY, KINDS };
 
-static const char *const names[KINDS] = {"tick", "open", "close", "lock", "unlock", "receive", "report", "write CC", "write CV", "empty"};
+static const char *const names[KINDS] = {"tick",    "open",   "close",    "lock",     "unlock",
+                                         "receive", "report", "write CC", "write CV", "empty"};
 
 struct call {
     enum kind kind;
@@ -87,7 +84,8 @@ struct said {
     struct korvezul_report report;
 };
 
-static struct said make(struct korvezul_session *row, size_t n, struct korvezul_head *head, const struct call *c) {
+static struct said make(struct korvezul_session *row, size_t n, struct korvezul_head *head,
+                        const struct call *c) {
     struct said s;
     memset(&s, 0, sizeof s);
     switch (c->kind) {
@@ -112,8 +110,8 @@ static struct said make(struct korvezul_session *row, size_t n, struct korvezul_
 static void line(uint64_t number, const struct call *c, const struct said *s) {
     printf("%" PRIu64 " %" PRIu32, number, s->answer);
     if (s->answer == 0 && c->kind == REPORT)
-        printf(" %d %d %d %d %d %d %d", s->report.state, s->report.crossing, s->report.loss, s->report.alarm, s->report.rdi,
-               s->report.blocked, s->report.conditions);
+        printf(" %d %d %d %d %d %d %d", s->report.state, s->report.crossing, s->report.loss, s->report.alarm,
+               s->report.rdi, s->report.blocked, s->report.conditions);
     if (s->answer == 0 && (c->kind == WRITE_CC || c->kind == WRITE_CV)) {
         printf(" ");
         for (size_t i = 0; i < (c->kind == WRITE_CC ? KORVEZUL_CC_OCTETS : KORVEZUL_CV_OCTETS); i++)
@@ -138,7 +136,8 @@ static uint8_t *put(uint8_t *o, int n, uint64_t x) {
 }
 
 static struct korvezul_mep_id mep_of(uint16_t kind, const uint8_t *o) {
-    struct korvezul_mep_id id = {kind, (uint32_t)number(o, 4), (uint32_t)number(o + 4, 4), (uint32_t)number(o + 8, 4)};
+    struct korvezul_mep_id id = {kind, (uint32_t)number(o, 4), (uint32_t)number(o + 4, 4),
+                                 (uint32_t)number(o + 8, 4)};
     return id;
 }
 
@@ -174,7 +173,8 @@ static int play(void) {
         struct said s;
         if (got == 0)
             return 0;
-        if (got < 16 || number(begin + 12, 2) > 8 || size > sizeof body || fread(body, 1, size, stdin) != size) {
+        if (got < 16 || number(begin + 12, 2) > 8 || size > sizeof body ||
+            fread(body, 1, size, stdin) != size) {
             printf("cut\n");
             return 0;
         }
@@ -218,7 +218,8 @@ static struct korvezul_settings some_settings(uint32_t label) {
 }
 
 static uint64_t some_reading(uint64_t clock) {
-    static const uint64_t steps[] = {0, 1, 2, 2999, 3000, 3001, 3000000, 3000001, 3499999, 3500000, 7000000, 69999999, 70000000};
+    static const uint64_t steps[] = {0,       1,       2,       2999,    3000,     3001,    3000000,
+                                     3000001, 3499999, 3500000, 7000000, 69999999, 70000000};
     if (once_in(60))
         return any();
     if (once_in(60))
@@ -291,7 +292,8 @@ static size_t some_message(uint8_t *o, uint32_t label) {
 /* A call on a table, its octets lent; a buffer of any size, or of one that `watch` lends. Now and
  * then nothing is closed for a while, so that the table fills up. */
 static struct call some_call(const struct korvezul_head *head, const struct lender *lent, int as_watch) {
-    static const enum kind often[] = {TICK, OPEN, OPEN, CLOSE, LOCK, UNLOCK, RECEIVE, RECEIVE, RECEIVE, RECEIVE, RECEIVE, REPORT, REPORT, WRITE_CC, WRITE_CV};
+    static const enum kind often[] = {TICK,    OPEN,    OPEN,    CLOSE,  LOCK,   UNLOCK,   RECEIVE, RECEIVE,
+                                      RECEIVE, RECEIVE, RECEIVE, REPORT, REPORT, WRITE_CC, WRITE_CV};
     static int filling;
     uint8_t m[128];
     struct call c;
@@ -319,9 +321,12 @@ static struct call some_call(const struct korvezul_head *head, const struct lend
 static void record(FILE *to, const struct call *c) {
     uint8_t o[16 + 128], *body = o + 16, *end = body;
     if (c->kind == OPEN) {
-        end = put(put(put(body, 4, c->settings.discriminator), 4, c->settings.period), 2, c->settings.own.kind);
-        end = put(put(put(end, 4, c->settings.own.global), 4, c->settings.own.node), 4, c->settings.own.local);
-        end = put(put(put(end, 4, c->settings.expected.global), 4, c->settings.expected.node), 4, c->settings.expected.local);
+        end =
+            put(put(put(body, 4, c->settings.discriminator), 4, c->settings.period), 2, c->settings.own.kind);
+        end =
+            put(put(put(end, 4, c->settings.own.global), 4, c->settings.own.node), 4, c->settings.own.local);
+        end = put(put(put(end, 4, c->settings.expected.global), 4, c->settings.expected.node), 4,
+                  c->settings.expected.local);
         end = put(end, 1, c->settings.link + 2u * c->settings.lock);
     }
     if (c->kind == RECEIVE) {
@@ -372,7 +377,8 @@ static int ones(uint64_t x) {
 
 /* The answers that a call can give, beside 0 and 26. */
 static int may_answer(enum kind kind, uint32_t answer) {
-    static const char *const sets[KINDS] = {"\1", "\1\12\13\14", "\1\2", "\1\2", "\1\2", "\1\2\3\4\5\6\7\10\11\16", "\2", "\2\15", "\2\15", ""};
+    static const char *const sets[KINDS] = {
+        "\1", "\1\12\13\14", "\1\2", "\1\2", "\1\2", "\1\2\3\4\5\6\7\10\11\16", "\2", "\2\15", "\2\15", ""};
     return answer == 0 || answer == 26 || (answer < 26 && strchr(sets[kind], (int)answer) != NULL);
 }
 
@@ -382,7 +388,8 @@ struct table {
     uint8_t octets[128];
 };
 
-static void look(const struct table *before, const struct table *after, size_t n, const struct call *c, const struct said *s) {
+static void look(const struct table *before, const struct table *after, size_t n, const struct call *c,
+                 const struct said *s) {
     int changed = 0;
     size_t kept = 0;
     static const uint8_t noughts[7];
@@ -391,20 +398,25 @@ static void look(const struct table *before, const struct table *after, size_t n
     for (size_t i = 0; i < n; i++)
         changed += memcmp(&before->row[i], &after->row[i], sizeof before->row[i]) != 0;
     if (s->answer != 0 || c->kind == REPORT)
-        must(changed == 0 && memcmp(&before->head, &after->head, sizeof before->head) == 0 && memcmp(before->octets, after->octets, c->size) == 0,
+        must(changed == 0 && memcmp(&before->head, &after->head, sizeof before->head) == 0 &&
+                 memcmp(before->octets, after->octets, c->size) == 0,
              "a refusal or a report changes a byte");
     if (s->answer != 0 && c->kind == REPORT)
         must(memcmp(&s->report.state, noughts, sizeof noughts) == 0, "a refused report shows something");
     must(changed <= 1, "more than one record changes");
-    must(ones(before->head.occupied ^ after->head.occupied) <= (c->kind == OPEN || c->kind == CLOSE) || c->kind == EMPTY, "the set of places changes");
+    must(ones(before->head.occupied ^ after->head.occupied) <= (c->kind == OPEN || c->kind == CLOSE) ||
+             c->kind == EMPTY,
+         "the set of places changes");
     if (s->answer == 0 && c->kind <= RECEIVE)
         must(after->head.clock == c->reading, "the clock is not the reading");
     if (c->kind == WRITE_CC || c->kind == WRITE_CV)
         kept = c->kind == WRITE_CC ? KORVEZUL_CC_OCTETS : KORVEZUL_CV_OCTETS;
     if (kept < c->size)
-        must(memcmp(before->octets + kept, after->octets + kept, c->size - kept) == 0, "an octet behind what is written changes");
+        must(memcmp(before->octets + kept, after->octets + kept, c->size - kept) == 0,
+             "an octet behind what is written changes");
     if (kept > 0 && s->answer == 0)
-        must(c->kind == WRITE_CC ? korvezul_read_cc(after->octets, c->size).answer == 0 : korvezul_read_cv(after->octets, c->size).answer == 0,
+        must(c->kind == WRITE_CC ? korvezul_read_cc(after->octets, c->size).answer == 0
+                                 : korvezul_read_cv(after->octets, c->size).answer == 0,
              "what is written is not read");
 }
 
@@ -430,16 +442,20 @@ static void look_at_message(const struct lender *lent) {
     }
     if (cv.answer == 0) {
         struct korvezul_cv_read r;
-        must(korvezul_write_cv_message(again, 44, cv.packet, cv.mep) == 0, "a CV that was read is not written");
+        must(korvezul_write_cv_message(again, 44, cv.packet, cv.mep) == 0,
+             "a CV that was read is not written");
         r = korvezul_read_cv(again, 44);
         must(r.answer == 0 && memcmp(&r.packet, &cv.packet, 27) == 0, "a CV reads back to something else");
-        must(cv.part + 16 <= n && memcmp(o + cv.part, again + 28, 16) == 0, "the MEP-ID part is not that of the message");
+        must(cv.part + 16 <= n && memcmp(o + cv.part, again + 28, 16) == 0,
+             "the MEP-ID part is not that of the message");
     }
     if (fault.answer == 0) {
         struct korvezul_fault_read r;
-        must(korvezul_write_fault_message(again, 25, fault.fault) == 0, "a fault message that was read is not written");
+        must(korvezul_write_fault_message(again, 25, fault.fault) == 0,
+             "a fault message that was read is not written");
         r = korvezul_read_fault(again, 9 + again[8]);
-        must(r.answer == 0 && memcmp(&r.fault, &fault.fault, 18) == 0, "a fault message reads back to something else");
+        must(r.answer == 0 && memcmp(&r.fault, &fault.fault, 18) == 0,
+             "a fault message reads back to something else");
     }
     must(memcmp(o, m, n) == 0, "a message that was lent to be read changes");
 }
@@ -452,7 +468,8 @@ static int at_random(double seconds) {
     korvezul_empty(base.row, KORVEZUL_RECORDS, &base.head);
     while ((double)(clock() - start) / CLOCKS_PER_SEC < seconds) {
         struct call step = some_call(&base.head, &lent, 1), c;
-        size_t n = once_in(25) ? below(KORVEZUL_RECORDS + 3) : KORVEZUL_RECORDS, size = n * sizeof(struct korvezul_session);
+        size_t n = once_in(25) ? below(KORVEZUL_RECORDS + 3) : KORVEZUL_RECORDS,
+               size = n * sizeof(struct korvezul_session);
         struct korvezul_session *row = lend(&rows, size, once_in(2));
         struct korvezul_head *head = lend(&heads, sizeof *head, once_in(2));
         struct said s, twice;
@@ -493,7 +510,8 @@ static int at_random(double seconds) {
         *head = before.head;
         memcpy(c.octets, before.octets, c.size);
         twice = make(row, n, head, &c);
-        must(memcmp(&s, &twice, sizeof s) == 0 && memcmp(row, after.row, size) == 0 && memcmp(c.octets, after.octets, c.size) == 0 && memcmp(head, &after.head, sizeof *head) == 0,
+        must(memcmp(&s, &twice, sizeof s) == 0 && memcmp(row, after.row, size) == 0 &&
+                 memcmp(c.octets, after.octets, c.size) == 0 && memcmp(head, &after.head, sizeof *head) == 0,
              "the same call does another thing");
         look_at_message(&lent);
         messages++;

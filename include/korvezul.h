@@ -240,7 +240,8 @@ uint32_t korvezul_write_cv_message(uint8_t *buffer, size_t size, struct korvezul
 uint32_t korvezul_write_fault_message(uint8_t *buffer, size_t size, struct korvezul_fault fault);
 
 /* The layout that the library was compiled with, held against this compiler's: a size or a place
- * that differs is an array of -1 elements. */
+ * that differs is an array of -1 elements. The numbers are those proved of the library's own structs
+ * (crates/korvezul/proofs/Places.antt); hosts/run compares the two lists. */
 #define KORVEZUL_CHECK(name, test) typedef char korvezul_check_##name[(test) ? 1 : -1]
 #define KORVEZUL_PLACE(type, field, place) \
     KORVEZUL_CHECK(type##_##field, offsetof(struct korvezul_##type, field) == (place))
@@ -254,59 +255,110 @@ uint32_t korvezul_write_fault_message(uint8_t *buffer, size_t size, struct korve
 
 KORVEZUL_SIZE(mep_id, 16);
 KORVEZUL_ALIGNED(mep_id, 4);
+KORVEZUL_PLACE(mep_id, kind, 0);
 KORVEZUL_PLACE(mep_id, global, 4);
 KORVEZUL_PLACE(mep_id, node, 8);
 KORVEZUL_PLACE(mep_id, local, 12);
+
 KORVEZUL_SIZE(settings, 48);
 KORVEZUL_ALIGNED(settings, 4);
+KORVEZUL_PLACE(settings, label, 0);
 KORVEZUL_PLACE(settings, discriminator, 4);
 KORVEZUL_PLACE(settings, period, 8);
 KORVEZUL_PLACE(settings, own, 12);
 KORVEZUL_PLACE(settings, expected, 28);
 KORVEZUL_PLACE(settings, link, 44);
 KORVEZUL_PLACE(settings, lock, 45);
+
 KORVEZUL_SIZE(key, 12);
+KORVEZUL_ALIGNED(key, 4);
+KORVEZUL_PLACE(key, node, 0);
 KORVEZUL_PLACE(key, interface_number, 4);
 KORVEZUL_PLACE(key, kind, 8);
 KORVEZUL_PLACE(key, present, 9);
+
 KORVEZUL_SIZE(condition, 24);
 KORVEZUL_ALIGNED(condition, 8);
+KORVEZUL_PLACE(condition, at, 0);
 KORVEZUL_PLACE(condition, key, 8);
 KORVEZUL_PLACE(condition, refresh, 20);
 KORVEZUL_PLACE(condition, link, 21);
+
 KORVEZUL_SIZE(peer, 8);
+KORVEZUL_ALIGNED(peer, 4);
+KORVEZUL_PLACE(peer, remote, 0);
 KORVEZUL_PLACE(peer, multiplier, 4);
 KORVEZUL_PLACE(peer, diagnostic, 5);
 KORVEZUL_PLACE(peer, owed, 6);
+
 KORVEZUL_SIZE(session, 176);
 KORVEZUL_ALIGNED(session, 8);
+KORVEZUL_PLACE(session, timed, 0);
 KORVEZUL_PLACE(session, crossed, 8);
 KORVEZUL_PLACE(session, conditions, 16);
 KORVEZUL_PLACE(session, settings, 112);
 KORVEZUL_PLACE(session, peer, 160);
 KORVEZUL_PLACE(session, state, 168);
 KORVEZUL_PLACE(session, crossing, 169);
+
 KORVEZUL_SIZE(head, 16);
 KORVEZUL_ALIGNED(head, 8);
+KORVEZUL_PLACE(head, clock, 0);
 KORVEZUL_PLACE(head, occupied, 8);
+
 KORVEZUL_SIZE(report, 12);
 KORVEZUL_ALIGNED(report, 4);
+KORVEZUL_PLACE(report, answer, 0);
 KORVEZUL_PLACE(report, state, 4);
+KORVEZUL_PLACE(report, crossing, 5);
+KORVEZUL_PLACE(report, loss, 6);
+KORVEZUL_PLACE(report, alarm, 7);
+KORVEZUL_PLACE(report, rdi, 8);
+KORVEZUL_PLACE(report, blocked, 9);
 KORVEZUL_PLACE(report, conditions, 10);
+
 KORVEZUL_SIZE(packet, 28);
 KORVEZUL_ALIGNED(packet, 4);
+KORVEZUL_PLACE(packet, my, 0);
+KORVEZUL_PLACE(packet, your, 4);
+KORVEZUL_PLACE(packet, transmit, 8);
+KORVEZUL_PLACE(packet, receive, 12);
+KORVEZUL_PLACE(packet, echo, 16);
 KORVEZUL_PLACE(packet, diagnostic, 20);
+KORVEZUL_PLACE(packet, state, 21);
+KORVEZUL_PLACE(packet, multiplier, 22);
+KORVEZUL_PLACE(packet, poll, 23);
+KORVEZUL_PLACE(packet, final, 24);
+KORVEZUL_PLACE(packet, independent, 25);
 KORVEZUL_PLACE(packet, demand, 26);
+
 KORVEZUL_SIZE(fault, 20);
 KORVEZUL_ALIGNED(fault, 4);
+KORVEZUL_PLACE(fault, node, 0);
+KORVEZUL_PLACE(fault, interface_number, 4);
+KORVEZUL_PLACE(fault, global, 8);
 KORVEZUL_PLACE(fault, kind, 12);
+KORVEZUL_PLACE(fault, link, 13);
+KORVEZUL_PLACE(fault, removed, 14);
+KORVEZUL_PLACE(fault, refresh, 15);
+KORVEZUL_PLACE(fault, has_if_id, 16);
 KORVEZUL_PLACE(fault, has_global_id, 17);
+
 KORVEZUL_SIZE(cc_read, 32);
+KORVEZUL_ALIGNED(cc_read, 4);
+KORVEZUL_PLACE(cc_read, answer, 0);
 KORVEZUL_PLACE(cc_read, packet, 4);
+
 KORVEZUL_SIZE(cv_read, 52);
+KORVEZUL_ALIGNED(cv_read, 4);
+KORVEZUL_PLACE(cv_read, answer, 0);
+KORVEZUL_PLACE(cv_read, part, 4);
 KORVEZUL_PLACE(cv_read, packet, 8);
 KORVEZUL_PLACE(cv_read, mep, 36);
+
 KORVEZUL_SIZE(fault_read, 24);
+KORVEZUL_ALIGNED(fault_read, 4);
+KORVEZUL_PLACE(fault_read, answer, 0);
 KORVEZUL_PLACE(fault_read, fault, 4);
 
 #undef KORVEZUL_ALIGNED

@@ -7,3 +7,4 @@ pub mod ThinCall
 pub mod ThinAsk
 pub mod ThinWrite
 pub mod Messages
+pub mod Places

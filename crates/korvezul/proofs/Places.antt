@@ -1,0 +1,80 @@
+-- The layout of what is lent and returned: size, alignment and the place of each field, as `include/korvezul.h` holds them against a C compiler's.
+-- Assumes nothing.
+use Prim.Native.Nat.{ℕ, zero, suc}
+use mathlib.Core.Path.{_≡_, refl}
+use mathlib.Core.List.{List, [], _∷_}
+use mathlib.Core.Option.{Option, none, some}
+use mir.Syntax.{Ty}
+use prog.Memory.{size, align, fieldOf}
+use Rattle.cv.proofs.MepId.Laws.{mir as mep-id}
+use Rattle.rules.proofs.Settings.Laws.{mir as settings}
+use Rattle.rules.proofs.Key.Laws.{mir as key}
+use Rattle.conditions.proofs.Condition.Laws.{mir as condition}
+use Rattle.conditions.proofs.Conditions.Laws.{mir as conditions}
+use Rattle.session.proofs.Peer.Laws.{mir as peer}
+use Rattle.session.proofs.Session.Laws.{mir as session}
+use Rattle.table.proofs.Head.Laws.{mir as head}
+use Rattle.korvezul.proofs.ReportAnswer.Laws.{mir as report}
+use Rattle.korvezul.proofs.fields.PacketFields.Laws.{mir as packet}
+use Rattle.korvezul.proofs.fields.FaultFields.Laws.{mir as fault}
+use Rattle.korvezul.proofs.readers.CcRead.Laws.{mir as cc-read}
+use Rattle.korvezul.proofs.readers.CvRead.Laws.{mir as cv-read}
+use Rattle.korvezul.proofs.readers.FaultRead.Laws.{mir as fault-read}
+
+-- a field that begins there
+abbrev begins : Option (Ty × ℕ) → ℕ → Type 0
+begins none p = ⊥
+begins (some f) p = f .1 ≡ p
+
+-- the fields from the k-th on stand at these places, and there is none behind
+abbrev stand : Ty → ℕ → List ℕ → Type 0
+stand τ k [] = fieldOf τ k ≡ none
+stand τ k (p ∷ ps) = begins (fieldOf τ k) p × stand τ (suc k) ps
+
+-- size, alignment, and where each field stands
+pub record Laid (τ : Ty) (n k : ℕ) (places : List ℕ) : Type 0 where
+  pub octets : size τ ≡ n
+  pub aligned : align τ ≡ k
+  pub fields : stand τ zero places
+
+pub mep-id-laid : Laid mep-id 16 4 (0 ∷ 4 ∷ 8 ∷ 12 ∷ [])
+mep-id-laid = record { octets = refl; aligned = refl; fields = (refl, (refl, (refl, (refl, refl)))) }
+
+pub settings-laid : Laid settings 48 4 (0 ∷ 4 ∷ 8 ∷ 12 ∷ 28 ∷ 44 ∷ 45 ∷ [])
+settings-laid = record { octets = refl; aligned = refl; fields = (refl, (refl, (refl, (refl, (refl, (refl, (refl, refl))))))) }
+
+pub key-laid : Laid key 12 4 (0 ∷ 4 ∷ 8 ∷ 9 ∷ [])
+key-laid = record { octets = refl; aligned = refl; fields = (refl, (refl, (refl, (refl, refl)))) }
+
+pub condition-laid : Laid condition 24 8 (0 ∷ 8 ∷ 20 ∷ 21 ∷ [])
+condition-laid = record { octets = refl; aligned = refl; fields = (refl, (refl, (refl, (refl, refl)))) }
+
+pub conditions-laid : Laid conditions 96 8 (0 ∷ 24 ∷ 48 ∷ 72 ∷ [])
+conditions-laid = record { octets = refl; aligned = refl; fields = (refl, (refl, (refl, (refl, refl)))) }
+
+pub peer-laid : Laid peer 8 4 (0 ∷ 4 ∷ 5 ∷ 6 ∷ [])
+peer-laid = record { octets = refl; aligned = refl; fields = (refl, (refl, (refl, (refl, refl)))) }
+
+pub session-laid : Laid session 176 8 (0 ∷ 8 ∷ 16 ∷ 112 ∷ 160 ∷ 168 ∷ 169 ∷ [])
+session-laid = record { octets = refl; aligned = refl; fields = (refl, (refl, (refl, (refl, (refl, (refl, (refl, refl))))))) }
+
+pub head-laid : Laid head 16 8 (0 ∷ 8 ∷ [])
+head-laid = record { octets = refl; aligned = refl; fields = (refl, (refl, refl)) }
+
+pub report-laid : Laid report 12 4 (0 ∷ 4 ∷ 5 ∷ 6 ∷ 7 ∷ 8 ∷ 9 ∷ 10 ∷ [])
+report-laid = record { octets = refl; aligned = refl; fields = (refl, (refl, (refl, (refl, (refl, (refl, (refl, (refl, refl)))))))) }
+
+pub packet-laid : Laid packet 28 4 (0 ∷ 4 ∷ 8 ∷ 12 ∷ 16 ∷ 20 ∷ 21 ∷ 22 ∷ 23 ∷ 24 ∷ 25 ∷ 26 ∷ [])
+packet-laid = record { octets = refl; aligned = refl; fields = (refl, (refl, (refl, (refl, (refl, (refl, (refl, (refl, (refl, (refl, (refl, (refl, refl)))))))))))) }
+
+pub fault-laid : Laid fault 20 4 (0 ∷ 4 ∷ 8 ∷ 12 ∷ 13 ∷ 14 ∷ 15 ∷ 16 ∷ 17 ∷ [])
+fault-laid = record { octets = refl; aligned = refl; fields = (refl, (refl, (refl, (refl, (refl, (refl, (refl, (refl, (refl, refl))))))))) }
+
+pub cc-read-laid : Laid cc-read 32 4 (0 ∷ 4 ∷ [])
+cc-read-laid = record { octets = refl; aligned = refl; fields = (refl, (refl, refl)) }
+
+pub cv-read-laid : Laid cv-read 52 4 (0 ∷ 4 ∷ 8 ∷ 36 ∷ [])
+cv-read-laid = record { octets = refl; aligned = refl; fields = (refl, (refl, (refl, (refl, refl)))) }
+
+pub fault-read-laid : Laid fault-read 24 4 (0 ∷ 4 ∷ [])
+fault-read-laid = record { octets = refl; aligned = refl; fields = (refl, (refl, refl)) }
