@@ -136,49 +136,61 @@ static void need(int holds, const char *field) {
     }
 }
 
-/* Every field of a record, as the library stored it, read through the header. */
-static void check_layout(void) {
-    static struct korvezul_session row[KORVEZUL_RECORDS];
-    struct korvezul_head head;
-    struct korvezul_settings s = {0x11121,
-                                  0x21222324,
-                                  0x313233,
-                                  {1, 0x41424344, 0x45464748, 0x494a4b4c},
-                                  {1, 0x51525354, 0x55565758, 0x595a5b5c},
-                                  1,
-                                  0};
-    struct korvezul_packet p = {.my = 0x61626364, .diagnostic = 9, .state = 1, .multiplier = 5, .poll = 1};
-    struct korvezul_fault f = {0x71727374, 0x75767778, 0, 2, 1, 0, 20, 1, 0};
-    uint8_t m[KORVEZUL_CC_OCTETS], n[KORVEZUL_FAULT_OCTETS];
+/* Every field of a record, as the library stored it, read through the header: a session that is
+ * opened, hears a CC, takes an LKR and is crossed, with values that tell the fields apart. */
+static struct korvezul_session row[KORVEZUL_RECORDS];
+static struct korvezul_head head;
+static const struct korvezul_settings told = {0x11121,
+                                              0x21222324,
+                                              0x313233,
+                                              {1, 0x41424344, 0x45464748, 0x494a4b4c},
+                                              {1, 0x51525354, 0x55565758, 0x595a5b5c},
+                                              1,
+                                              0};
+
+static void check_opened(void) {
     memset(row, 0xa5, sizeof row);
     need(korvezul_empty(row, KORVEZUL_RECORDS, &head) == 0, "empty");
-    need(korvezul_open(row, KORVEZUL_RECORDS, &head, s, 0x010203) == 0, "open");
+    need(korvezul_open(row, KORVEZUL_RECORDS, &head, told, 0x010203) == 0, "open");
     need(head.clock == 0x010203 && head.occupied == 1, "head");
-    need(memcmp(&row[0].settings, &s, offsetof(struct korvezul_settings, lock) + 1) == 0, "settings");
+    need(memcmp(&row[0].settings, &told, offsetof(struct korvezul_settings, lock) + 1) == 0, "settings");
     need(row[0].timed == 0x010203 && row[0].state == 1 && row[0].crossing == 0, "timed, state, crossing");
     need(row[0].peer.remote == 0 && row[0].peer.multiplier == 3, "peer of a new session");
+    need(((const unsigned char *)&row[1])[0] == 0xa5, "a record next to it");
+}
+
+static void check_heard(struct korvezul_packet p) {
+    const struct korvezul_peer *peer = &row[0].peer;
+    uint8_t m[KORVEZUL_CC_OCTETS];
     need(korvezul_write_cc_message(m, sizeof m, p) == 0, "CC");
-    need(korvezul_receive(row, KORVEZUL_RECORDS, &head, s.label, m, sizeof m, 0x010204) == 0, "heard CC");
+    need(korvezul_receive(row, KORVEZUL_RECORDS, &head, told.label, m, sizeof m, 0x010204) == 0, "heard CC");
     need(row[0].timed == 0x010204 && row[0].state == 2, "timed, state of one that heard");
-    need(row[0].peer.remote == p.my && row[0].peer.multiplier == 5 && row[0].peer.diagnostic == 9 &&
-             row[0].peer.owed == 1,
-         "peer");
-    need(korvezul_write_fault_message(n, 19, f) == 0, "LKR");
-    need(korvezul_receive(row, KORVEZUL_RECORDS, &head, s.label, n, 19, 0x010205) == 0, "taken LKR");
-    need(row[0].conditions[0].at == 0x010205 && row[0].conditions[0].refresh == 20 &&
-             row[0].conditions[0].link == 1,
-         "condition");
-    need(row[0].conditions[0].key.node == f.node &&
-             row[0].conditions[0].key.interface_number == f.interface_number &&
-             row[0].conditions[0].key.kind == 2 && row[0].conditions[0].key.present == 1,
-         "key");
-    need(row[0].conditions[1].key.kind == 0 && row[0].conditions[3].key.kind == 0, "empty conditions");
+    need(peer->remote == p.my && peer->multiplier == 5 && peer->diagnostic == 9 && peer->owed == 1, "peer");
+}
+
+static void check_taken(struct korvezul_fault f) {
+    const struct korvezul_condition *c = row[0].conditions;
+    uint8_t m[KORVEZUL_FAULT_OCTETS];
+    need(korvezul_write_fault_message(m, 19, f) == 0, "LKR");
+    need(korvezul_receive(row, KORVEZUL_RECORDS, &head, told.label, m, 19, 0x010205) == 0, "taken LKR");
+    need(c[0].at == 0x010205 && c[0].refresh == 20 && c[0].link == 1, "condition");
+    need(c[0].key.node == f.node && c[0].key.interface_number == f.interface_number, "IF_ID of a key");
+    need(c[0].key.kind == 2 && c[0].key.present == 1, "type and mark of a key");
+    need(c[1].key.kind == 0 && c[3].key.kind == 0, "empty conditions");
+}
+
+static void check_layout(void) {
+    struct korvezul_packet p = {.my = 0x61626364, .diagnostic = 9, .state = 1, .multiplier = 5, .poll = 1};
+    struct korvezul_fault f = {0x71727374, 0x75767778, 0, 2, 1, 0, 20, 1, 0};
+    uint8_t m[KORVEZUL_CC_OCTETS];
+    check_opened();
+    check_heard(p);
+    check_taken(f);
     p.your = 1;
     need(korvezul_write_cc_message(m, sizeof m, p) == 0, "crossed CC");
-    need(korvezul_receive(row, KORVEZUL_RECORDS, &head, s.label, m, sizeof m, 0x010206) == 0,
+    need(korvezul_receive(row, KORVEZUL_RECORDS, &head, told.label, m, sizeof m, 0x010206) == 0,
          "crossed CC taken");
     need(row[0].crossed == 0x010206 && row[0].crossing == 1, "crossed, crossing");
-    need(((const unsigned char *)&row[1])[0] == 0xa5, "a record next to it");
     printf("layout: every field is where the header has it\n");
 }
 
@@ -258,9 +270,18 @@ static void messages(void) {
     printf("P of 2 written: %" PRIu32 "\n", korvezul_write_cc_message(cc, sizeof cc, p));
 }
 
-int main(void) {
-    check_layout();
-    check_octets();
+static void both_report(void) {
+    report(&a);
+    report(&b);
+}
+
+static void tick_and_report(struct end *e, uint64_t reading) {
+    now = reading;
+    tick(e);
+    report(e);
+}
+
+static void come_up(void) {
     headline("two tables made empty, a session opened in each");
     said(&a, "empty", 0, korvezul_empty(a.row, KORVEZUL_RECORDS, &a.head));
     said(&b, "empty", 0, korvezul_empty(b.row, KORVEZUL_RECORDS, &b.head));
@@ -268,14 +289,15 @@ int main(void) {
     open_session(&b, 200, 34, 20, 10);
     headline("CC goes both ways until both are UP");
     exchange(0, 2000000);
-    report(&a);
-    report(&b);
+    both_report();
     headline("CV goes both ways, and each end is the one expected");
     now = 2500000;
     pass_cv(&a, a.label, &b);
     pass_cv(&b, b.label, &a);
-    report(&a);
-    report(&b);
+    both_report();
+}
+
+static void cross(void) {
     headline("the CV of another circuit of A comes out at B: crossed, blocked, down");
     now = 3000000;
     open_session(&a, 101, 18, 11, 21);
@@ -284,44 +306,39 @@ int main(void) {
     headline("set right again: both come up, and B is free 3.5 seconds after the crossed message");
     exchange(3000000, 6000000);
     report(&b);
-    now = 6499999;
-    tick(&b);
-    report(&b);
-    now = 6500000;
-    tick(&b);
-    report(&b);
+    tick_and_report(&b, 6499999);
+    tick_and_report(&b, 6500000);
+}
+
+static void cut(void) {
     headline("the wire is cut: no loss at 3 periods, a loss and its alarm one microsecond later");
-    now = 9000000;
-    tick(&a);
-    report(&a);
+    tick_and_report(&a, 9000000);
     now = 9000001;
     tick(&a);
     tick(&b);
-    report(&a);
-    report(&b);
+    both_report();
     headline("AIS tells A why: the alarm is held back while it stands");
     ais(&a);
     report(&a);
-    now = 12500000;
-    tick(&a);
-    report(&a);
-    now = 12500001;
-    tick(&a);
-    report(&a);
+    tick_and_report(&a, 12500000);
+    tick_and_report(&a, 12500001);
     headline("the wire is whole: both come up again");
     exchange(13000000, 15000000);
-    report(&a);
-    report(&b);
+    both_report();
+}
+
+static void lock_and_unlock(void) {
     headline("A is locked: B hears ADMIN DOWN, and A takes no BFD message");
     said(&a, "lock", a.label, korvezul_lock(a.row, KORVEZUL_RECORDS, &a.head, a.label, now));
     both();
-    report(&a);
-    report(&b);
+    both_report();
     headline("and unlocked");
     said(&a, "unlock", a.label, korvezul_unlock(a.row, KORVEZUL_RECORDS, &a.head, a.label, now));
     exchange(15000000, 17000000);
-    report(&a);
-    report(&b);
+    both_report();
+}
+
+static void refusals(void) {
     headline("refusals");
     now = 16999999;
     said(&a, "close", a.label, korvezul_close(a.row, KORVEZUL_RECORDS, &a.head, a.label, now));
@@ -329,6 +346,16 @@ int main(void) {
     said(&a, "close", a.label, korvezul_close(a.row, KORVEZUL_RECORDS - 1, &a.head, a.label, now));
     said(&a, "close", a.label, korvezul_close(a.row, KORVEZUL_RECORDS, &a.head, a.label, now));
     report(&a);
+}
+
+int main(void) {
+    check_layout();
+    check_octets();
+    come_up();
+    cross();
+    cut();
+    lock_and_unlock();
+    refusals();
     headline("messages alone");
     messages();
     return 0;

@@ -6,7 +6,7 @@ use std::mem::{align_of, offset_of, size_of};
 const RECORDS: usize = 64;
 
 #[repr(C)]
-#[derive(Clone, Copy, Default)]
+#[derive(Clone, Copy, Debug, Default, PartialEq)]
 struct MepId {
     kind: u16,
     global: u32,
@@ -15,7 +15,7 @@ struct MepId {
 }
 
 #[repr(C)]
-#[derive(Clone, Copy, Default)]
+#[derive(Clone, Copy, Debug, Default, PartialEq)]
 struct Settings {
     label: u32,
     discriminator: u32,
@@ -27,7 +27,7 @@ struct Settings {
 }
 
 #[repr(C)]
-#[derive(Clone, Copy, Default)]
+#[derive(Clone, Copy, Debug, Default, PartialEq)]
 struct Key {
     node: u32,
     interface: u32,
@@ -36,7 +36,7 @@ struct Key {
 }
 
 #[repr(C)]
-#[derive(Clone, Copy, Default)]
+#[derive(Clone, Copy, Debug, Default, PartialEq)]
 struct Condition {
     at: u64,
     key: Key,
@@ -45,7 +45,7 @@ struct Condition {
 }
 
 #[repr(C)]
-#[derive(Clone, Copy, Default)]
+#[derive(Clone, Copy, Debug, Default, PartialEq)]
 struct Peer {
     remote: u32,
     multiplier: u8,
@@ -54,7 +54,7 @@ struct Peer {
 }
 
 #[repr(C)]
-#[derive(Clone, Copy, Default)]
+#[derive(Clone, Copy, Debug, Default, PartialEq)]
 struct Session {
     timed: u64,
     crossed: u64,
@@ -66,7 +66,7 @@ struct Session {
 }
 
 #[repr(C)]
-#[derive(Clone, Copy, Default)]
+#[derive(Clone, Copy, Debug, Default, PartialEq)]
 struct Head {
     clock: u64,
     occupied: u64,
@@ -86,7 +86,7 @@ struct Report {
 }
 
 #[repr(C)]
-#[derive(Clone, Copy, Default, PartialEq)]
+#[derive(Clone, Copy, Debug, Default, PartialEq)]
 struct Packet {
     my: u32,
     your: u32,
@@ -103,7 +103,7 @@ struct Packet {
 }
 
 #[repr(C)]
-#[derive(Clone, Copy, Default)]
+#[derive(Clone, Copy, Debug, Default, PartialEq)]
 struct Fault {
     node: u32,
     interface: u32,
@@ -138,60 +138,20 @@ struct FaultRead {
 
 // The layout that the library was compiled with.
 const _: () = {
-    assert!(
-        size_of::<Session>() == 176
-            && align_of::<Session>() == 8
-            && offset_of!(Session, settings) == 112
-    );
-    assert!(
-        offset_of!(Session, peer) == 160
-            && offset_of!(Session, state) == 168
-            && size_of::<Settings>() == 48
-    );
-    assert!(
-        size_of::<Condition>() == 24
-            && offset_of!(Condition, refresh) == 20
-            && size_of::<Head>() == 16
-    );
+    assert!(size_of::<Session>() == 176 && align_of::<Session>() == 8 && offset_of!(Session, settings) == 112);
+    assert!(offset_of!(Session, peer) == 160 && offset_of!(Session, state) == 168 && size_of::<Settings>() == 48);
+    assert!(size_of::<Condition>() == 24 && offset_of!(Condition, refresh) == 20 && size_of::<Head>() == 16);
     assert!(size_of::<Report>() == 12 && size_of::<Packet>() == 28 && size_of::<Fault>() == 20);
     assert!(size_of::<CcRead>() == 32 && size_of::<CvRead>() == 52 && size_of::<FaultRead>() == 24);
-    assert!(
-        offset_of!(CvRead, mep) == 36
-            && offset_of!(CcRead, packet) == 4
-            && offset_of!(CvRead, packet) == 8
-    );
+    assert!(offset_of!(CvRead, mep) == 36 && offset_of!(CcRead, packet) == 4 && offset_of!(CvRead, packet) == 8);
 };
 
 extern "C" {
     fn korvezul_empty(row: *const Session, records: usize, head: *mut Head) -> u32;
-    fn korvezul_open(
-        row: *mut Session,
-        records: usize,
-        head: *mut Head,
-        settings: Settings,
-        reading: u64,
-    ) -> u32;
-    fn korvezul_close(
-        row: *mut Session,
-        records: usize,
-        head: *mut Head,
-        label: u32,
-        reading: u64,
-    ) -> u32;
-    fn korvezul_lock(
-        row: *mut Session,
-        records: usize,
-        head: *mut Head,
-        label: u32,
-        reading: u64,
-    ) -> u32;
-    fn korvezul_unlock(
-        row: *mut Session,
-        records: usize,
-        head: *mut Head,
-        label: u32,
-        reading: u64,
-    ) -> u32;
+    fn korvezul_open(row: *mut Session, records: usize, head: *mut Head, settings: Settings, reading: u64) -> u32;
+    fn korvezul_close(row: *mut Session, records: usize, head: *mut Head, label: u32, reading: u64) -> u32;
+    fn korvezul_lock(row: *mut Session, records: usize, head: *mut Head, label: u32, reading: u64) -> u32;
+    fn korvezul_unlock(row: *mut Session, records: usize, head: *mut Head, label: u32, reading: u64) -> u32;
     fn korvezul_receive(
         row: *mut Session,
         records: usize,
@@ -236,24 +196,13 @@ struct Table {
 
 impl Table {
     fn new() -> Table {
-        Table {
-            row: [Session::default(); RECORDS],
-            head: Head::default(),
-        }
+        Table { row: [Session::default(); RECORDS], head: Head::default() }
     }
     fn empty(&mut self) -> u32 {
         unsafe { korvezul_empty(self.row.as_ptr(), RECORDS, &mut self.head) }
     }
     fn open(&mut self, settings: Settings, reading: u64) -> u32 {
-        unsafe {
-            korvezul_open(
-                self.row.as_mut_ptr(),
-                RECORDS,
-                &mut self.head,
-                settings,
-                reading,
-            )
-        }
+        unsafe { korvezul_open(self.row.as_mut_ptr(), RECORDS, &mut self.head, settings, reading) }
     }
     /// Close, of the first records of the row.
     fn close(&mut self, records: usize, label: u32, reading: u64) -> u32 {
@@ -261,26 +210,10 @@ impl Table {
         unsafe { korvezul_close(row.as_mut_ptr(), row.len(), &mut self.head, label, reading) }
     }
     fn lock(&mut self, label: u32, reading: u64) -> u32 {
-        unsafe {
-            korvezul_lock(
-                self.row.as_mut_ptr(),
-                RECORDS,
-                &mut self.head,
-                label,
-                reading,
-            )
-        }
+        unsafe { korvezul_lock(self.row.as_mut_ptr(), RECORDS, &mut self.head, label, reading) }
     }
     fn unlock(&mut self, label: u32, reading: u64) -> u32 {
-        unsafe {
-            korvezul_unlock(
-                self.row.as_mut_ptr(),
-                RECORDS,
-                &mut self.head,
-                label,
-                reading,
-            )
-        }
+        unsafe { korvezul_unlock(self.row.as_mut_ptr(), RECORDS, &mut self.head, label, reading) }
     }
     fn receive(&mut self, label: u32, message: &[u8], reading: u64) -> u32 {
         unsafe {
@@ -303,26 +236,12 @@ impl Table {
     }
     fn write_cc(&mut self, label: u32, buffer: &mut [u8]) -> u32 {
         unsafe {
-            korvezul_write_cc(
-                self.row.as_mut_ptr(),
-                RECORDS,
-                &mut self.head,
-                label,
-                buffer.as_mut_ptr(),
-                buffer.len(),
-            )
+            korvezul_write_cc(self.row.as_mut_ptr(), RECORDS, &mut self.head, label, buffer.as_mut_ptr(), buffer.len())
         }
     }
     fn write_cv(&mut self, label: u32, buffer: &mut [u8]) -> u32 {
         unsafe {
-            korvezul_write_cv(
-                self.row.as_mut_ptr(),
-                RECORDS,
-                &mut self.head,
-                label,
-                buffer.as_mut_ptr(),
-                buffer.len(),
-            )
+            korvezul_write_cv(self.row.as_mut_ptr(), RECORDS, &mut self.head, label, buffer.as_mut_ptr(), buffer.len())
         }
     }
 }
@@ -397,10 +316,7 @@ impl End {
 }
 
 fn octets(o: &[u8]) {
-    println!(
-        "           {}",
-        o.iter().map(|x| format!("{x:02x}")).collect::<String>()
-    );
+    println!("           {}", o.iter().map(|x| format!("{x:02x}")).collect::<String>());
 }
 
 /// The CC that one end is to send, heard by the other.
@@ -440,12 +356,7 @@ fn exchange(from: u64, to: u64, a: &mut End, b: &mut End) {
 }
 
 fn lsp(node: u32) -> MepId {
-    MepId {
-        kind: 1,
-        global: 7,
-        node,
-        local: 0x00050001,
-    }
+    MepId { kind: 1, global: 7, node, local: 0x00050001 }
 }
 
 /// AIS with link down from a node in between, refreshed every second.
@@ -467,48 +378,16 @@ fn ais(now: u64, to: &mut End) {
     to.receive(now, &m);
 }
 
-/// Every field of a record, as the library stored it, read through the declarations above.
+/// Every field of a record, as the library stored it, read through the declarations above: a session
+/// that is opened, hears a CC, takes an LKR and is crossed, with values that tell the fields apart.
 fn check_layout() {
-    let mut t = Table::new();
-    let own = MepId {
-        kind: 1,
-        global: 0x41424344,
-        node: 0x45464748,
-        local: 0x494a4b4c,
-    };
-    let expected = MepId {
-        kind: 1,
-        global: 0x51525354,
-        node: 0x55565758,
-        local: 0x595a5b5c,
-    };
-    let s = Settings {
-        label: 0x11121,
-        discriminator: 0x21222324,
-        period: 0x313233,
-        own,
-        expected,
-        link: 1,
-        lock: 0,
-    };
-    assert_eq!((t.empty(), t.open(s, 0x010203)), (0, 0));
-    let mut p = Packet {
-        my: 0x61626364,
-        diagnostic: 9,
-        state: 1,
-        multiplier: 5,
-        poll: 1,
-        ..Packet::default()
-    };
-    let (mut cc, mut lkr) = ([0; 28], [0; 19]);
-    assert_eq!(
-        (
-            write_cc_message(&mut cc, p),
-            t.receive(s.label, &cc, 0x010204)
-        ),
-        (0, 0)
-    );
-    let f = Fault {
+    let own = MepId { kind: 1, global: 0x41424344, node: 0x45464748, local: 0x494a4b4c };
+    let expected = MepId { kind: 1, global: 0x51525354, node: 0x55565758, local: 0x595a5b5c };
+    let settings =
+        Settings { label: 0x11121, discriminator: 0x21222324, period: 0x313233, own, expected, link: 1, lock: 0 };
+    let heard = Packet { my: 0x61626364, diagnostic: 9, state: 1, multiplier: 5, poll: 1, ..Packet::default() };
+    let crossed = Packet { your: 1, ..heard };
+    let lkr = Fault {
         node: 0x71727374,
         interface: 0x75767778,
         kind: 2,
@@ -517,118 +396,47 @@ fn check_layout() {
         has_if_id: 1,
         ..Fault::default()
     };
+    let mut t = Table::new();
+    let mut m = [0; 28];
+    assert_eq!((t.empty(), t.open(settings, 0x010203)), (0, 0));
+    assert_eq!((write_cc_message(&mut m, heard), t.receive(settings.label, &m, 0x010204)), (0, 0));
+    assert_eq!((write_fault_message(&mut m, lkr), t.receive(settings.label, &m[..19], 0x010205)), (0, 0));
+    assert_eq!((write_cc_message(&mut m, crossed), t.receive(settings.label, &m, 0x010206)), (0, 0));
+    let key = Key { node: lkr.node, interface: lkr.interface, kind: 2, present: 1 };
+    let mut conditions = [Condition::default(); 4];
+    conditions[0] = Condition { at: 0x010205, key, refresh: 20, link: 1 };
+    let peer = Peer { remote: heard.my, multiplier: 5, diagnostic: 9, owed: 1 };
     assert_eq!(
-        (
-            write_fault_message(&mut lkr, f),
-            t.receive(s.label, &lkr, 0x010205)
-        ),
-        (0, 0)
+        t.row[0],
+        Session { timed: 0x010204, crossed: 0x010206, conditions, settings, peer, state: 2, crossing: 1 }
     );
-    p.your = 1;
-    assert_eq!(
-        (
-            write_cc_message(&mut cc, p),
-            t.receive(s.label, &cc, 0x010206)
-        ),
-        (0, 0)
-    );
-    let (r, c) = (t.row[0], t.row[0].conditions[0]);
-    assert_eq!(
-        (
-            t.head.clock,
-            t.head.occupied,
-            r.timed,
-            r.crossed,
-            r.state,
-            r.crossing
-        ),
-        (0x010206, 1, 0x010204, 0x010206, 2, 1)
-    );
-    assert_eq!(
-        (
-            r.peer.remote,
-            r.peer.multiplier,
-            r.peer.diagnostic,
-            r.peer.owed
-        ),
-        (p.my, 5, 9, 1)
-    );
-    assert_eq!(
-        (
-            c.at,
-            c.key.node,
-            c.key.interface,
-            c.key.kind,
-            c.key.present,
-            c.refresh,
-            c.link
-        ),
-        (0x010205, f.node, f.interface, 2, 1, 20, 1)
-    );
-    assert_eq!(
-        (
-            r.settings.label,
-            r.settings.discriminator,
-            r.settings.period,
-            r.settings.link,
-            r.settings.lock
-        ),
-        (s.label, s.discriminator, s.period, 1, 0)
-    );
-    for (x, y) in [(r.settings.own, own), (r.settings.expected, expected)] {
-        assert_eq!(
-            (x.kind, x.global, x.node, x.local),
-            (y.kind, y.global, y.node, y.local)
-        );
-    }
+    assert_eq!(t.head, Head { clock: 0x010206, occupied: 1 });
     println!("layout: every field is where the header has it");
 }
 
-/// Every field of a message, told apart by the octets that it becomes, and read back from them.
-fn check_octets() {
-    let p = Packet {
-        my: 0x01020304,
-        your: 0x05060708,
-        transmit: 0x090a0b0c,
-        receive: 0x0d0e0f10,
-        echo: 0x11121314,
-        diagnostic: 0x1f,
-        state: 2,
-        multiplier: 0x15,
-        poll: 1,
-        fin: 0,
-        independent: 1,
-        demand: 0,
-    };
-    let id = MepId {
-        kind: 1,
-        global: 0x21222324,
-        node: 0x25262728,
-        local: 0x292a2b2c,
-    };
+/// The fields of a packet, told apart by the octets that they become, and read back from them.
+fn check_packet() {
+    let octets = [1, 2, 3, 4].map(|i| u32::from_be_bytes([4 * i - 3, 4 * i - 2, 4 * i - 1, 4 * i]));
+    let [my, your, transmit, receive] = octets;
+    let flags = Packet { poll: 1, independent: 1, ..Packet::default() };
+    let p =
+        Packet { my, your, transmit, receive, echo: 0x11121314, diagnostic: 0x1f, state: 2, multiplier: 0x15, ..flags };
+    let id = MepId { kind: 1, global: 0x21222324, node: 0x25262728, local: 0x292a2b2c };
     let mut cv = [0; 44];
     assert_eq!(write_cv_message(&mut cv, p, id), 0);
-    let head = [0x10, 0, 0, 0x23, 0x3f, 0xa8, 0x15, 0x18];
-    assert!(
-        cv[..8] == head && (8..28).all(|i| cv[i] as usize == i - 7) && cv[28..32] == [0, 1, 0, 12]
-    );
+    assert_eq!(cv[..8], [0x10, 0, 0, 0x23, 0x3f, 0xa8, 0x15, 0x18]);
+    assert!((8..28).all(|i| cv[i] as usize == i - 7) && cv[28..32] == [0, 1, 0, 12]);
     assert!((32..44).all(|i| cv[i] as usize == i + 1));
     let v = read_cv(&cv);
-    assert!(v.answer == 0 && v.part == 28 && v.packet == p);
-    assert_eq!(
-        (v.mep.kind, v.mep.global, v.mep.node, v.mep.local),
-        (id.kind, id.global, id.node, id.local)
-    );
-    let mut m = [0; 28];
-    let other = Packet {
-        state: 3,
-        poll: 0,
-        independent: 0,
-        fin: 1,
-        demand: 1,
-        ..p
-    };
-    assert_eq!((write_cc_message(&mut m, other), m[5]), (0, 0xd2));
+    assert_eq!((v.answer, v.part, v.packet, v.mep), (0, 28, p, id));
+    let mut cc = [0; 28];
+    let other = Packet { state: 3, poll: 0, independent: 0, fin: 1, demand: 1, ..p };
+    assert_eq!((write_cc_message(&mut cc, other), cc[5]), (0, 0xd2));
+}
+
+/// The same for a fault message.
+fn check_fault() {
+    let mut o = [0; 25];
     let lkr = Fault {
         node: 0x31323334,
         interface: 0x35363738,
@@ -638,46 +446,34 @@ fn check_octets() {
         has_if_id: 1,
         ..Fault::default()
     };
-    let mut o = [0; 25];
     assert_eq!(write_fault_message(&mut o, lkr), 0);
-    assert_eq!(
-        o[..19],
-        [
-            0x10, 0, 0, 0x58, 0x10, 2, 2, 20, 10, 1, 8, 0x31, 0x32, 0x33, 0x34, 0x35, 0x36, 0x37,
-            0x38
-        ]
-    );
+    assert_eq!(o[..11], [0x10, 0, 0, 0x58, 0x10, 2, 2, 20, 10, 1, 8]);
+    assert!((11..19).all(|i| o[i] as usize == i + 0x26));
     let w = read_fault(&o[..19]);
-    assert_eq!(
-        (
-            w.answer,
-            w.fault.node,
-            w.fault.interface,
-            w.fault.kind,
-            w.fault.link
-        ),
-        (0, lkr.node, lkr.interface, 2, 1)
-    );
-    let ais = Fault {
-        global: 0x393a3b3c,
-        kind: 1,
-        removed: 1,
-        refresh: 5,
-        has_global_id: 1,
-        ..Fault::default()
-    };
+    assert_eq!((w.answer, w.fault), (0, lkr));
+    let ais = Fault { global: 0x393a3b3c, kind: 1, removed: 1, refresh: 5, has_global_id: 1, ..Fault::default() };
     assert_eq!(write_fault_message(&mut o, ais), 0);
-    assert_eq!(
-        o[..15],
-        [0x10, 0, 0, 0x58, 0x10, 1, 1, 5, 6, 2, 4, 0x39, 0x3a, 0x3b, 0x3c]
-    );
+    assert_eq!(o[..15], [0x10, 0, 0, 0x58, 0x10, 1, 1, 5, 6, 2, 4, 0x39, 0x3a, 0x3b, 0x3c]);
     println!("layout: every field of a message becomes its octets");
+}
+
+fn message_refusals(mut cc: [u8; 28], mut p: Packet) {
+    let r = read_cc(&cc[..27]);
+    println!(
+        "CC of 27 octets: {}, and {}",
+        r.answer,
+        if r.packet == Packet::default() { "noughts" } else { "something" }
+    );
+    println!("CC read as a CV: {}", read_cv(&cc).answer);
+    println!("CC into 27 octets: {}", write_cc_message(&mut cc[..27], p));
+    p.poll = 2;
+    println!("P of 2 written: {}", write_cc_message(&mut cc, p));
 }
 
 /// The readers and writers of messages alone.
 fn messages() {
     let (mut cc, mut cv, mut fault) = ([0; 28], [0; 47], [0; 25]);
-    let mut p = Packet {
+    let p = Packet {
         my: 17,
         your: 34,
         transmit: 1000000,
@@ -688,14 +484,7 @@ fn messages() {
         fin: 1,
         ..Packet::default()
     };
-    let f = Fault {
-        kind: 2,
-        refresh: 20,
-        removed: 1,
-        global: 9,
-        has_global_id: 1,
-        ..Fault::default()
-    };
+    let f = Fault { kind: 2, refresh: 20, removed: 1, global: 9, has_global_id: 1, ..Fault::default() };
     print!("write CC: {}", write_cc_message(&mut cc, p));
     let r = read_cc(&cc);
     println!(
@@ -705,10 +494,7 @@ fn messages() {
     print!("write CV: {}", write_cv_message(&mut cv, p, lsp(20)));
     let v = read_cv(&cv);
     assert!(v.packet == p);
-    println!(
-        ", read: {}, node {}, part from octet {}",
-        v.answer, v.mep.node, v.part
-    );
+    println!(", read: {}, node {}, part from octet {}", v.answer, v.mep.node, v.part);
     octets(&cv[v.part as usize..v.part as usize + 16]);
     print!("write LKR: {}", write_fault_message(&mut fault, f));
     let w = read_fault(&fault[..15]);
@@ -722,106 +508,97 @@ fn messages() {
         w.fault.has_global_id,
         w.fault.global
     );
-    let r = read_cc(&cc[..27]);
-    println!(
-        "CC of 27 octets: {}, and {}",
-        r.answer,
-        if r.packet == Packet::default() {
-            "noughts"
-        } else {
-            "something"
-        }
-    );
-    println!("CC read as a CV: {}", read_cv(&cc).answer);
-    println!("CC into 27 octets: {}", write_cc_message(&mut cc[..27], p));
-    p.poll = 2;
-    println!("P of 2 written: {}", write_cc_message(&mut cc, p));
+    message_refusals(cc, p);
 }
 
-fn main() {
-    check_layout();
-    check_octets();
-    let mut a = End {
-        name: 'A',
-        table: Table::new(),
-        label: 100,
-    };
-    let mut b = End {
-        name: 'B',
-        table: Table::new(),
-        label: 200,
-    };
+fn both_report(now: u64, a: &mut End, b: &mut End) {
+    a.report(now);
+    b.report(now);
+}
+
+fn tick_and_report(now: u64, e: &mut End) {
+    e.tick(now);
+    e.report(now);
+}
+
+fn come_up(a: &mut End, b: &mut End) {
     println!("-- two tables made empty, a session opened in each");
-    for e in [&mut a, &mut b] {
+    for e in [&mut *a, &mut *b] {
         let answer = e.table.empty();
         e.said(0, "empty", answer);
     }
     a.open(0, 100, 17, 10, 20);
     b.open(0, 200, 34, 20, 10);
     println!("-- CC goes both ways until both are UP");
-    exchange(0, 2000000, &mut a, &mut b);
-    a.report(2000000);
-    b.report(2000000);
+    exchange(0, 2000000, a, b);
+    both_report(2000000, a, b);
     println!("-- CV goes both ways, and each end is the one expected");
-    pass_cv(2500000, &mut a, 100, &mut b);
-    pass_cv(2500000, &mut b, 200, &mut a);
-    a.report(2500000);
-    b.report(2500000);
+    pass_cv(2500000, a, 100, b);
+    pass_cv(2500000, b, 200, a);
+    both_report(2500000, a, b);
+}
+
+fn cross(a: &mut End, b: &mut End) {
     println!("-- the CV of another circuit of A comes out at B: crossed, blocked, down");
     a.open(3000000, 101, 18, 11, 21);
-    pass_cv(3000000, &mut a, 101, &mut b);
+    pass_cv(3000000, a, 101, b);
     b.report(3000000);
-    println!(
-        "-- set right again: both come up, and B is free 3.5 seconds after the crossed message"
-    );
-    exchange(3000000, 6000000, &mut a, &mut b);
+    println!("-- set right again: both come up, and B is free 3.5 seconds after the crossed message");
+    exchange(3000000, 6000000, a, b);
     b.report(6000000);
-    for now in [6499999, 6500000] {
-        b.tick(now);
-        b.report(now);
-    }
-    println!(
-        "-- the wire is cut: no loss at 3 periods, a loss and its alarm one microsecond later"
-    );
-    a.tick(9000000);
-    a.report(9000000);
+    tick_and_report(6499999, b);
+    tick_and_report(6500000, b);
+}
+
+fn cut(a: &mut End, b: &mut End) {
+    println!("-- the wire is cut: no loss at 3 periods, a loss and its alarm one microsecond later");
+    tick_and_report(9000000, a);
     a.tick(9000001);
     b.tick(9000001);
-    a.report(9000001);
-    b.report(9000001);
+    both_report(9000001, a, b);
     println!("-- AIS tells A why: the alarm is held back while it stands");
-    ais(9000001, &mut a);
+    ais(9000001, a);
     a.report(9000001);
-    for now in [12500000, 12500001] {
-        a.tick(now);
-        a.report(now);
-    }
+    tick_and_report(12500000, a);
+    tick_and_report(12500001, a);
     println!("-- the wire is whole: both come up again");
-    exchange(13000000, 15000000, &mut a, &mut b);
-    a.report(15000000);
-    b.report(15000000);
+    exchange(13000000, 15000000, a, b);
+    both_report(15000000, a, b);
+}
+
+fn lock_and_unlock(a: &mut End, b: &mut End) {
     println!("-- A is locked: B hears ADMIN DOWN, and A takes no BFD message");
     let answer = a.table.lock(100, 15000000);
     a.said(15000000, "lock 100", answer);
-    both(15000000, &mut a, &mut b);
-    a.report(15000000);
-    b.report(15000000);
+    both(15000000, a, b);
+    both_report(15000000, a, b);
     println!("-- and unlocked");
     let answer = a.table.unlock(100, 15000000);
     a.said(15000000, "unlock 100", answer);
-    exchange(15000000, 17000000, &mut a, &mut b);
-    a.report(17000000);
-    b.report(17000000);
+    exchange(15000000, 17000000, a, b);
+    both_report(17000000, a, b);
+}
+
+fn refusals(a: &mut End) {
     println!("-- refusals");
-    for (now, records) in [
-        (16999999, RECORDS),
-        (17000000, RECORDS - 1),
-        (17000000, RECORDS),
-    ] {
+    for (now, records) in [(16999999, RECORDS), (17000000, RECORDS - 1), (17000000, RECORDS)] {
         let answer = a.table.close(records, 100, now);
         a.said(now, "close 100", answer);
     }
     a.report(17000000);
+}
+
+fn main() {
+    check_layout();
+    check_packet();
+    check_fault();
+    let mut a = End { name: 'A', table: Table::new(), label: 100 };
+    let mut b = End { name: 'B', table: Table::new(), label: 200 };
+    come_up(&mut a, &mut b);
+    cross(&mut a, &mut b);
+    cut(&mut a, &mut b);
+    lock_and_unlock(&mut a, &mut b);
+    refusals(&mut a);
     println!("-- messages alone");
     messages();
 }

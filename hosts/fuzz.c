@@ -460,62 +460,57 @@ static void look_at_message(const struct lender *lent) {
     must(memcmp(o, m, n) == 0, "a message that was lent to be read changes");
 }
 
-static int at_random(double seconds) {
-    struct lender rows = a_lender(), heads = a_lender(), lent = a_lender();
-    static struct table base, before, after;
-    static uint64_t counts[KINDS][27], messages;
-    clock_t start = clock();
-    korvezul_empty(base.row, KORVEZUL_RECORDS, &base.head);
-    while ((double)(clock() - start) / CLOCKS_PER_SEC < seconds) {
-        struct call step = some_call(&base.head, &lent, 1), c;
-        size_t n = once_in(25) ? below(KORVEZUL_RECORDS + 3) : KORVEZUL_RECORDS,
-               size = n * sizeof(struct korvezul_session);
-        struct korvezul_session *row = lend(&rows, size, once_in(2));
-        struct korvezul_head *head = lend(&heads, sizeof *head, once_in(2));
-        struct said s, twice;
-        if (once_in(20000))
-            korvezul_empty(base.row, KORVEZUL_RECORDS, &base.head);
-        if (step.reading < UINT64_C(1) << 62)
-            make(base.row, KORVEZUL_RECORDS, &base.head, &step);
-        if (once_in(8)) {
-            fill(row, size);
-            fill(head, sizeof *head);
-            if (once_in(2))
-                head->occupied &= any() & any() & any() & any() & any();
-        } else {
-            memcpy(row, base.row, size);
-            *head = base.head;
-            for (uint64_t k = below(3); k > 0 && size > 0; k--)
-                ((uint8_t *)row)[below(size)] = (uint8_t)(once_in(2) ? any() : below(6));
-            if (once_in(10))
-                head->occupied ^= UINT64_C(1) << below(64);
-            if (once_in(10))
-                head->clock = some_reading(head->clock);
-        }
-        c = some_call(head, &lent, 0);
-        if (once_in(100))
-            c.kind = EMPTY;
-        at_fault = &c;
-        memcpy(before.row, row, size);
-        before.head = *head;
-        memcpy(before.octets, c.octets, c.size);
-        s = make(row, n, head, &c);
-        memcpy(after.row, row, size);
-        after.head = *head;
-        memcpy(after.octets, c.octets, c.size);
-        look(&before, &after, n, &c, &s);
-        counts[c.kind][s.answer]++;
-        /* the same once more: nothing is remembered between calls */
-        memcpy(row, before.row, size);
-        *head = before.head;
-        memcpy(c.octets, before.octets, c.size);
-        twice = make(row, n, head, &c);
-        must(memcmp(&s, &twice, sizeof s) == 0 && memcmp(row, after.row, size) == 0 &&
-                 memcmp(c.octets, after.octets, c.size) == 0 && memcmp(head, &after.head, sizeof *head) == 0,
-             "the same call does another thing");
-        look_at_message(&lent);
-        messages++;
+/* A table that is lent: any bytes, or one that calls made with a few bytes damaged. */
+static void some_table(const struct table *base, struct korvezul_session *row, size_t size,
+                       struct korvezul_head *head) {
+    if (once_in(8)) {
+        fill(row, size);
+        fill(head, sizeof *head);
+        if (once_in(2))
+            head->occupied &= any() & any() & any() & any() & any();
+        return;
     }
+    memcpy(row, base->row, size);
+    *head = base->head;
+    for (uint64_t k = below(3); k > 0 && size > 0; k--)
+        ((uint8_t *)row)[below(size)] = (uint8_t)(once_in(2) ? any() : below(6));
+    if (once_in(10))
+        head->occupied ^= UINT64_C(1) << below(64);
+    if (once_in(10))
+        head->clock = some_reading(head->clock);
+}
+
+static void keep(struct table *to, const struct korvezul_session *row, size_t size,
+                 const struct korvezul_head *head, const struct call *c) {
+    memcpy(to->row, row, size);
+    to->head = *head;
+    memcpy(to->octets, c->octets, c->size);
+}
+
+/* A call, looked at, and made once more on the same bytes: nothing is remembered between calls. */
+static uint32_t tried(struct korvezul_session *row, size_t n, struct korvezul_head *head,
+                      const struct call *c) {
+    static struct table before, after;
+    size_t size = n * sizeof *row;
+    struct said s, twice;
+    at_fault = c;
+    keep(&before, row, size, head, c);
+    s = make(row, n, head, c);
+    keep(&after, row, size, head, c);
+    look(&before, &after, n, c, &s);
+    memcpy(row, before.row, size);
+    *head = before.head;
+    memcpy(c->octets, before.octets, c->size);
+    twice = make(row, n, head, c);
+    must(s.answer == twice.answer && memcmp(&s.report.state, &twice.report.state, 7) == 0,
+         "the same call answers otherwise");
+    must(memcmp(row, after.row, size) == 0 && memcmp(head, &after.head, sizeof *head) == 0 &&
+             memcmp(c->octets, after.octets, c->size) == 0,
+         "the same call leaves other bytes");
+    return s.answer;
+}
+
+static void print_counts(uint64_t counts[KINDS][27]) {
     for (int k = 0; k < KINDS; k++) {
         printf("%s:", names[k]);
         for (int i = 0; i < 27; i++)
@@ -523,6 +518,32 @@ static int at_random(double seconds) {
                 printf(" %d x%" PRIu64, i, counts[k][i]);
         printf("\n");
     }
+}
+
+static int at_random(double seconds) {
+    struct lender rows = a_lender(), heads = a_lender(), lent = a_lender();
+    static struct table base;
+    static uint64_t counts[KINDS][27], messages;
+    clock_t start = clock();
+    for (; (double)(clock() - start) / CLOCKS_PER_SEC < seconds; messages++) {
+        size_t n = once_in(25) ? below(KORVEZUL_RECORDS + 3) : KORVEZUL_RECORDS, size = n * sizeof *base.row;
+        struct korvezul_session *row = lend(&rows, size, once_in(2));
+        struct korvezul_head *head = lend(&heads, sizeof *head, once_in(2));
+        struct call c;
+        /* the table that calls make goes on, and now and then begins again */
+        if (messages % 20000 == 0)
+            korvezul_empty(base.row, KORVEZUL_RECORDS, &base.head);
+        c = some_call(&base.head, &lent, 1);
+        if (c.reading < UINT64_C(1) << 62)
+            make(base.row, KORVEZUL_RECORDS, &base.head, &c);
+        some_table(&base, row, size, head);
+        c = some_call(head, &lent, 0);
+        if (once_in(100))
+            c.kind = EMPTY;
+        counts[c.kind][tried(row, n, head, &c)]++;
+        look_at_message(&lent);
+    }
+    print_counts(counts);
     printf("messages: %" PRIu64 "\n", messages);
     return 0;
 }
