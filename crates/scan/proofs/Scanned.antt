@@ -83,24 +83,23 @@ and-true : (a : Bool) → a ≡ a && true
 and-true true = refl
 and-true false = refl
 
-one-sound : (a b c : Bool) → (a && b) && not c ≡ a && not (not b || c)
-one-sound true true c = refl
-one-sound true false c = refl
-one-sound false b c = refl
+one-sound : (mark : ℕ) (b c : Bool) → eqb (cond b mark 0) 1 && not c ≡ eqb mark 1 && not (not b || c)
+one-sound mark true c = refl
+one-sound mark false c = split (eqb mark 1) (λ e. rw e) (λ e. rw e)
 
 pass-sound : (at : ℕ) (p : Pass) (rows : List Session)
-    → passOver at p rows .progress .sound
-    ≡ p .progress .sound && every (λ r. sessionSound r (p .progress .clock)) (opens (p .progress .rest) rows)
+    → eqb (passOver at p rows .progress .sound) 1
+    ≡ eqb (p .progress .sound) 1 && every (λ r. sessionSound r (p .progress .clock)) (opens (p .progress .rest) rows)
 unfolding opens any counted passed
-pass-sound at p [] = unfold passOver in and-true (p .progress .sound)
+pass-sound at p [] = unfold passOver in and-true (eqb (p .progress .sound) 1)
 pass-sound at p (r ∷ rs) =
     split (firstOn (p .progress .rest))
     (λ o.
-    ap (λ (q : Pass). q .progress .sound) (on-open at p r rs o) ∙ pass-sound (suc at) (atOpen p at r) rs
+    ap (λ (q : Pass). eqb (q .progress .sound) 1) (on-open at p r rs o) ∙ pass-sound (suc at) (atOpen p at r) rs
     ∙ rw o
     (one-sound (p .progress .sound) (sessionSound r (p .progress .clock))
     (any (λ x. not (sessionSound x (p .progress .clock))) (opens (p .progress .rest / 2) rs))))
-    (λ o. ap (λ (q : Pass). q .progress .sound) (on-free at p r rs o) ∙ pass-sound (suc at) (atFree p) rs ∙ rw o)
+    (λ o. ap (λ (q : Pass). eqb (q .progress .sound) 1) (on-free at p r rs o) ∙ pass-sound (suc at) (atFree p) rs ∙ rw o)
 
 -- rivals: whether an open record has the label or the discriminator
 
@@ -108,26 +107,26 @@ or-false : (a : Bool) → a ≡ a || false
 or-false true = refl
 or-false false = refl
 
-or-assoc : (a b c : Bool) → (a || b) || c ≡ a || (b || c)
-or-assoc true b c = refl
-or-assoc false b c = refl
+one-rival : (mark : ℕ) (b c : Bool) → eqb (cond b 1 mark) 1 || c ≡ eqb mark 1 || (b || c)
+one-rival mark true c = split (eqb mark 1) (λ e. rw e) (λ e. rw e)
+one-rival mark false c = refl
 
 abbrev rivalOf : ℕ → ℕ → Session → Bool
 rivalOf label discriminator r = eqb (r .settings .label) label || eqb (r .settings .discriminator) discriminator
 
 pass-rival : (at : ℕ) (p : Pass) (rows : List Session)
-    → passOver at p rows .progress .rival
-    ≡ p .progress .rival || any (rivalOf (p .progress .label) (p .progress .discriminator)) (opens (p .progress .rest) rows)
+    → eqb (passOver at p rows .progress .rival) 1
+    ≡ eqb (p .progress .rival) 1 || any (rivalOf (p .progress .label) (p .progress .discriminator)) (opens (p .progress .rest) rows)
 unfolding opens any counted passed
-pass-rival at p [] = unfold passOver in or-false (p .progress .rival)
+pass-rival at p [] = unfold passOver in or-false (eqb (p .progress .rival) 1)
 pass-rival at p (r ∷ rs) =
     split (firstOn (p .progress .rest))
     (λ o.
-    ap (λ (q : Pass). q .progress .rival) (on-open at p r rs o) ∙ pass-rival (suc at) (atOpen p at r) rs
+    ap (λ (q : Pass). eqb (q .progress .rival) 1) (on-open at p r rs o) ∙ pass-rival (suc at) (atOpen p at r) rs
     ∙ rw o
-    (or-assoc (p .progress .rival) (rivalOf (p .progress .label) (p .progress .discriminator) r)
+    (one-rival (p .progress .rival) (rivalOf (p .progress .label) (p .progress .discriminator) r)
     (any (rivalOf (p .progress .label) (p .progress .discriminator)) (opens (p .progress .rest / 2) rs))))
-    (λ o. ap (λ (q : Pass). q .progress .rival) (on-free at p r rs o) ∙ pass-rival (suc at) (atFree p) rs ∙ rw o)
+    (λ o. ap (λ (q : Pass). eqb (q .progress .rival) 1) (on-free at p r rs o) ∙ pass-rival (suc at) (atFree p) rs ∙ rw o)
 
 -- the place of the label
 
@@ -247,7 +246,7 @@ module _ (row : List Session) (head : Head) (target : Target) where
       ∙ once-map (keyOf labels) openRecords
 
   -- what the pass says before keys are compared
-  sound-so-far : passOver 0 begun row .progress .sound ≡ eqb (length row) 64 && every (λ r. sessionSound r (head .clock)) openRecords
+  sound-so-far : eqb (passOver 0 begun row .progress .sound) 1 ≡ eqb (length row) 64 && every (λ r. sessionSound r (head .clock)) openRecords
   unfolding startOf
   sound-so-far =
       pass-sound 0 begun row

@@ -24,8 +24,8 @@ startOf records head target =
       count = 0;
       label = target .label;
       discriminator = target .discriminator;
-      sound = eqb records 64;
-      rival = false;
+      sound = cond (eqb records 64) 1 0;
+      rival = 0;
     }
 
 -- a free place is passed by
@@ -64,8 +64,8 @@ counted s at r =
       count = upTo64 (s .count);
       label = s .label;
       discriminator = s .discriminator;
-      sound = s .sound && sessionSound r (s .clock);
-      rival = s .rival || isRival (s .label) (s .discriminator) (r .settings .label) (r .settings .discriminator);
+      sound = cond (sessionSound r (s .clock)) (s .sound) 0;
+      rival = cond (isRival (s .label) (s .discriminator) (r .settings .label) (r .settings .discriminator)) 1 (s .rival);
     }
 
 unfoldable pub takenIn : Progress → ℕ → Session → Progress
@@ -93,7 +93,7 @@ unfoldable pub apart : List ℕ → ℕ → Bool → Bool
 apart pairs count sound = sound && distinctIn true count pairs && distinctIn false count pairs
 
 unfoldable pub judgedOf : List ℕ → Progress → Summary
-judgedOf pairs s = record { place = s .place; sound = apart pairs (s .count) (s .sound); rival = s .rival }
+judgedOf pairs s = record { place = s .place; sound = apart pairs (s .count) (eqb (s .sound) 1); rival = eqb (s .rival) 1 }
 
 -- the whole scan
 unfoldable pub passOf : List Session → Head → Target → Pass

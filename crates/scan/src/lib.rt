@@ -16,8 +16,9 @@ pub struct Target {
 }
 
 // What is known at a place of the row: the clock, the set from this place on, the place of the
-// label (64: none so far), how many open records there were, what is looked for, whether all of
-// them were sound, whether one had that label or discriminator.
+// label (64: none so far), how many open records there were, what is looked for, 1 while all of
+// them were sound, 1 once one had that label or discriminator. Two bools would leave a gap behind
+// them, which is copied in each turn.
 pub struct Progress {
     pub clock: u64,
     pub rest: u64,
@@ -25,8 +26,8 @@ pub struct Progress {
     pub count: usize,
     pub label: u32,
     pub discriminator: u32,
-    pub sound: bool,
-    pub rival: bool,
+    pub sound: u32,
+    pub rival: u32,
 }
 
 // What the scan comes to. `sound` is false where 26 is due.

@@ -5,7 +5,6 @@ use crate::Target;
 use crate::keys::distinct;
 use crate::keys::key_pair;
 use octets::both;
-use octets::either;
 use session::Session;
 use table::Head;
 ghost use mathlib.Core.Path.{_≡_};
@@ -30,6 +29,7 @@ pub fn start(records: usize, head: Head, target: Target) -> Progress
 {
     let whole = records == 64;
     let rest = places_of(whole, head.occupied);
+    let sound = still_sound(1, whole);
     Progress {
         clock: head.clock,
         rest: rest,
@@ -37,8 +37,8 @@ pub fn start(records: usize, head: Head, target: Target) -> Progress
         count: 0,
         label: target.label,
         discriminator: target.discriminator,
-        sound: whole,
-        rival: false,
+        sound: sound,
+        rival: 0,
     }
 }
 
@@ -79,6 +79,25 @@ fn is_rival(label: u32, discriminator: u32, l: u32, d: u32) -> bool
     d == discriminator
 }
 
+// The mark while the records are sound, and none from the first on that is not.
+fn still_sound(mark: u32, sound: bool) -> u32
+    ensures { λ r. ⌜ r ≡ cond sound mark 0 ⌝ }
+{
+    if sound {
+        return mark;
+    }
+    0
+}
+
+fn now_rival(mark: u32, rival: bool) -> u32
+    ensures { λ r. ⌜ r ≡ cond rival 1 mark ⌝ }
+{
+    if rival {
+        return 1;
+    }
+    mark
+}
+
 fn passed_by(s: Progress) -> Progress
     ensures { λ r. ⌜ r ≡ passed s ⌝ }
 {
@@ -92,8 +111,8 @@ fn count_in(s: Progress, at: usize, r: Session) -> Progress
 {
     let hit = r.settings.label == s.label;
     let place = first_place(s.place, hit, at);
-    let sound = both(s.sound, session::session_sound(r, s.clock));
-    let rival = either(
+    let sound = still_sound(s.sound, session::session_sound(r, s.clock));
+    let rival = now_rival(
         s.rival,
         is_rival(
             s.label,
@@ -158,10 +177,11 @@ fn apart_by(pairs: &[u64], count: usize, sound: bool) -> bool
 pub fn judged(pairs: &[u64], s: Progress) -> Summary
     ensures { λ r. ⌜ r ≡ judgedOf (now (pairs .entry)) s ⌝ }
 {
-    let sound = apart_by(pairs, s.count, s.sound);
+    let sound = apart_by(pairs, s.count, s.sound == 1);
+    let rival = s.rival == 1;
     Summary {
         place: s.place,
         sound: sound,
-        rival: s.rival,
+        rival: rival,
     }
 }

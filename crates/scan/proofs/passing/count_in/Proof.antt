@@ -16,4 +16,4 @@ count-in-spec =
     (λ c κs. search needs)
     (λ c κs. search needs)
     (λ c κs. search needs)
-    (λ c. rw (c .up-to-64 .ensures, c .before .before .either .ensures, c .before .before .before .is-rival .ensures, c .before .before .before .before .both .ensures, c .before .before .before .before .before .session-sound .ensures, c .before .before .before .before .before .before .first-place .ensures)))
+    (λ c. rw (c .up-to-64 .ensures, c .before .before .now-rival .ensures, c .before .before .before .is-rival .ensures, c .before .before .before .before .still-sound .ensures, c .before .before .before .before .before .session-sound .ensures, c .before .before .before .before .before .before .first-place .ensures)))

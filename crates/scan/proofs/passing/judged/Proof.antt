@@ -11,4 +11,4 @@ judged-spec =
     tie.close
     (tie.spec
     (λ c κs. search needs)
-    (λ c. rw (c .apart-by .ensures)))
+    (λ c. rw (c .before .apart-by .ensures)))

@@ -11,4 +11,5 @@ start-spec =
     tie.close
     (tie.spec
     (λ c κs. search needs)
-    (λ c. rw (c .places-of .ensures)))
+    (λ c κs. search needs)
+    (λ c. rw (c .still-sound .ensures, c .before .places-of .ensures)))
