@@ -135,6 +135,10 @@ module _ (labels : Bool) (pairs : List ℕ) where
       (λ q. set-stays marks at (x % 1024) k (m x q))
       (or-cases (eqb x (keyIn labels (getD pairs i 0))) (any (eqb x) (keys labels i pairs)) (sym (any-more labels pairs (eqb x) i h) ∙ e))
 
+pub neither : (a b : Bool) → a || b ≡ false → (a ≡ false) × (b ≡ false)
+neither true b e = no-way refl e
+neither false b e = (refl, e)
+
 -- i pairs were seen: their keys are apart, and the marks of those are set
 pub record Seen (labels : Bool) (pairs : List ℕ) (i : ℕ) (marks : List Bool) : Type 0 where
   pub size : length marks ≡ 1024

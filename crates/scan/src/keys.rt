@@ -1,10 +1,11 @@
 // No two labels and no two discriminators alike, with marks: only a key whose mark is there is
 // compared with those before it.
+use octets::either;
 use octets::least;
 ghost use mathlib.Core.Path.{_≡_};
 ghost use Prim.Native.Nat.{_%_};
 ghost use lib.ListN.{length};
-ghost use mathlib.Core.Bool.{Bool, true, false, _&&_};
+ghost use mathlib.Core.Bool.{Bool, true, false, _&&_, _||_};
 ghost use lib.Dec.{eqb};
 ghost use Rattle.rules.specs.Lists.{any};
 ghost use Rattle.scan.specs.Distinct.{keyPair, keyIn, keys, distinctIn};
@@ -47,6 +48,16 @@ fn among(pairs: &[u64], count: usize, labels: bool, key: u64) -> bool
     found
 }
 
+// The label or the discriminator of a pair stands among the first pairs.
+fn met(pairs: &[u64], count: usize, pair: u64) -> bool
+    ensures { λ r. ⌜ r ≡ (any (eqb (keyIn true pair)) (keys true count (now (pairs .entry))) || any (eqb (keyIn false pair)) (keys false count (now (pairs .entry)))) ⌝ }
+{
+    if among(pairs, count, true, key_in(true, pair)) {
+        return true;
+    }
+    among(pairs, count, false, key_in(false, pair))
+}
+
 // No two labels alike, and no two discriminators: one pass, with a mark for each key modulo 1,024.
 // The first pair has nothing before it; its marks are set ahead of the pass.
 pub fn distinct(pairs: &[u64], count: usize) -> bool
@@ -66,13 +77,8 @@ pub fn distinct(pairs: &[u64], count: usize) -> bool
         let pair = pairs[i];
         let x = mark_of(true, pair);
         let y = mark_of(false, pair);
-        if labels[x] {
-            if among(pairs, i, true, key_in(true, pair)) {
-                return false;
-            }
-        }
-        if others[y] {
-            if among(pairs, i, false, key_in(false, pair)) {
+        if either(labels[x], others[y]) {
+            if met(pairs, i, pair) {
                 return false;
             }
         }

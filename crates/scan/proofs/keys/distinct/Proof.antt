@@ -9,9 +9,9 @@ use native.Mathlib.Omega.{arith}
 use lib.ListN.{length, getD, replicate}
 use lib.Dec.{eqb}
 use Rattle.rules.specs.Lists.{any}
-use Rattle.rules.proofs.Bools.{split}
+use Rattle.rules.proofs.Bools.{split, or-cases}
 use Rattle.scan.specs.Distinct.{keyIn, keys, distinctIn}
-use Rattle.scan.proofs.KeyMarks.{Seen, few, twice, seen-first, seen-new, seen-more, seen-all}
+use Rattle.scan.proofs.KeyMarks.{Seen, few, twice, neither, seen-first, seen-new, seen-more, seen-all}
 use Rattle.scan.proofs.keys.distinct.Statement.{statement}
 use Rattle.scan.proofs.keys.distinct.Tie as tie
 
@@ -69,40 +69,30 @@ mark-of-requires-3 c κs = search needs
 mark-of-requires-4 : tie.Need-mark-of-requires-4 Inv-loop μ-loop
 mark-of-requires-4 c κs = search needs
 
-array-read-if2 : tie.Need-array-read-if2 Inv-loop μ-loop
-array-read-if2 c =
-    omega (arith, c .before .mark-of3 .ensures)
+array-read-either : tie.Need-array-read-either Inv-loop μ-loop
+array-read-either c = omega (arith, c .before .mark-of3 .ensures)
 
-key-in-requires : tie.Need-key-in-requires Inv-loop μ-loop
-key-in-requires c κs = search needs
+array-read-either-2 : tie.Need-array-read-either-2 Inv-loop μ-loop
+array-read-either-2 c = omega (arith, c .mark-of4 .ensures)
 
-among-requires : tie.Need-among-requires Inv-loop μ-loop
-among-requires c κs = search needs
+either-requires : tie.Need-either-requires Inv-loop μ-loop
+either-requires c κs = search needs
+
+met-requires : tie.Need-met-requires Inv-loop μ-loop
+met-requires c κs = search needs
 
 returns-2 : tie.Need-returns-2 Inv-loop μ-loop
 returns-2 c =
     let a = c .before .before .before .before .before .before .before .before .before .before .before .before .before .before .before .args in
     let l = c .before .before .before .before .before .before .before .before .loop in
-    let there = ap (λ (x : ℕ). any (eqb x) (keys true (l .i) (a .pairs .now))) (sym (c .before .before .key-in .ensures)) ∙ sym (c .before .among .ensures) ∙ c .if3 .taken in
-    rw (twice true (a .pairs .now) (l .i) (a .count) (omega arith) (omega arith) there)
-
-array-read-if4 : tie.Need-array-read-if4 Inv-loop μ-loop
-array-read-if4 c =
-    omega (arith, c .before .mark-of4 .ensures)
-
-key-in-requires-2 : tie.Need-key-in-requires-2 Inv-loop μ-loop
-key-in-requires-2 c κs = search needs
-
-among-requires-2 : tie.Need-among-requires-2 Inv-loop μ-loop
-among-requires-2 c κs = search needs
-
-returns-3 : tie.Need-returns-3 Inv-loop μ-loop
-returns-3 c =
-    let a = c .before .before .before .before .before .before .before .before .before .before .before .before .before .before .before .before .args in
-    let l = c .before .before .before .before .before .before .before .before .before .loop in
-    let there = ap (λ (x : ℕ). any (eqb x) (keys false (l .i) (a .pairs .now))) (sym (c .before .before .key-in2 .ensures)) ∙ sym (c .before .among2 .ensures) ∙ c .if5 .taken in
-    let same : distinctIn false (a .count) (a .pairs .now) ≡ false = twice false (a .pairs .now) (l .i) (a .count) (omega arith) (omega arith) there in
-    split (distinctIn true (a .count) (a .pairs .now)) (λ t. rw (t, same)) (λ f. rw f)
+    let h : l .i < length (a .pairs .now) = omega arith in
+    let k : l .i < a .count = omega arith in
+    let pair = getD (a .pairs .now) (l .i) 0 in
+    ⊎-elim
+    (λ t. rw (twice true (a .pairs .now) (l .i) (a .count) h k t))
+    (λ t. split (distinctIn true (a .count) (a .pairs .now)) (λ d. rw (d, twice false (a .pairs .now) (l .i) (a .count) h k t)) (λ d. rw d))
+    (or-cases (any (eqb (keyIn true pair)) (keys true (l .i) (a .pairs .now))) (any (eqb (keyIn false pair)) (keys false (l .i) (a .pairs .now)))
+    (sym (c .before .met .ensures) ∙ c .if3 .taken))
 
 array-write-labels-2 : tie.Need-array-write-labels-2 Inv-loop μ-loop
 array-write-labels-2 c =
@@ -126,28 +116,29 @@ loop-again c =
     let pair = getD (a .pairs .now) (l .i) 0 in
     let x = c .before .before .before .mark-of3 .ensures in
     let y = c .before .before .mark-of4 .ensures in
-    let new : any (eqb (keyIn true pair)) (keys true (l .i) (a .pairs .now)) ≡ false =
+    let new : (any (eqb (keyIn true pair)) (keys true (l .i) (a .pairs .now)) ≡ false) × (any (eqb (keyIn false pair)) (keys false (l .i) (a .pairs .now)) ≡ false) =
     ⊎-elim
-    (λ w. ap (λ (k : ℕ). any (eqb k) (keys true (l .i) (a .pairs .now))) (sym (w .1 .ensures)) ∙ sym (w .2 .ensures) ∙ w .3 .left)
-    (λ w. seen-new true (a .pairs .now) (l .i) (l .labels) (l .inv .1 .1 .0) (keyIn true pair) (ap (λ (k : ℕ). getD (l .labels) k false) (sym x) ∙ w .left))
-    (c .before .if2 .came) in
-    let fresh : any (eqb (keyIn false pair)) (keys false (l .i) (a .pairs .now)) ≡ false =
-    ⊎-elim
-    (λ w. ap (λ (k : ℕ). any (eqb k) (keys false (l .i) (a .pairs .now))) (sym (w .1 .ensures)) ∙ sym (w .2 .ensures) ∙ w .3 .left)
-    (λ w. seen-new false (a .pairs .now) (l .i) (l .others) (l .inv .1 .1 .1) (keyIn false pair) (ap (λ (k : ℕ). getD (l .others) k false) (sym y) ∙ w .left))
-    (c .if4 .came) in (
+    (λ w.
+    neither (any (eqb (keyIn true pair)) (keys true (l .i) (a .pairs .now))) (any (eqb (keyIn false pair)) (keys false (l .i) (a .pairs .now)))
+    (sym (w .1 .ensures) ∙ w .2 .left))
+    (λ w.
+    let m = neither (getD (l .labels) (c .before .before .before .mark-of3 .result) false) (getD (l .others) (c .before .before .mark-of4 .result) false) (sym (c .before .either .ensures) ∙ w .left) in (
+      seen-new true (a .pairs .now) (l .i) (l .labels) (l .inv .1 .1 .0) (keyIn true pair) (ap (λ (k : ℕ). getD (l .labels) k false) (sym x) ∙ m .0),
+      seen-new false (a .pairs .now) (l .i) (l .others) (l .inv .1 .1 .1) (keyIn false pair) (ap (λ (k : ℕ). getD (l .others) k false) (sym y) ∙ m .1),
+    ))
+    (c .if2 .came) in (
       omega arith,
       (
         l .inv .1 .0,
         (
-          rw x (seen-more true (a .pairs .now) (l .i) (l .labels) h (l .inv .1 .1 .0) new),
-          rw y (seen-more false (a .pairs .now) (l .i) (l .others) h (l .inv .1 .1 .1) fresh),
+          rw x (seen-more true (a .pairs .now) (l .i) (l .labels) h (l .inv .1 .1 .0) (new .0)),
+          rw y (seen-more false (a .pairs .now) (l .i) (l .others) h (l .inv .1 .1 .1) (new .1)),
         ),
       ),
     )
 
-returns-4 : tie.Need-returns-4 Inv-loop μ-loop
-returns-4 c =
+returns-3 : tie.Need-returns-3 Inv-loop μ-loop
+returns-3 c =
     let a = c .before .before .before .before .before .before .before .before .args in
     let l = c .before .loop in
     let e : l .i ≡ min (a .count) (length (a .pairs .now)) = omega arith in
@@ -160,5 +151,5 @@ pub distinct-spec : {M : Type 1} → statement M
 distinct-spec =
     tie.close
     (tie.spec Inv-loop μ-loop least-requires returns shared-slice-read-first mark-of-requires array-write-labels mark-of-requires-2 array-write-others loop-holds
-    mul-pair shared-slice-read-pair mark-of-requires-3 mark-of-requires-4 array-read-if2 key-in-requires among-requires returns-2 array-read-if4
-    key-in-requires-2 among-requires-2 returns-3 array-write-labels-2 array-write-others-2 add-i loop-less loop-again returns-4)
+    mul-pair shared-slice-read-pair mark-of-requires-3 mark-of-requires-4 array-read-either array-read-either-2 either-requires met-requires returns-2
+    array-write-labels-2 array-write-others-2 add-i loop-less loop-again returns-3)
