@@ -1,20 +1,17 @@
--- What 26 asks of the four places where all but the first are empty, and of a place whose key is that of a filled one.
+-- What 26 asks of the four places where all but the first are empty.
 -- Assumes nothing.
 use Prim.Native.Nat.{ℕ}
-use mathlib.Core.Path.{_≡_, refl, ap, sym, _∙_}
+use mathlib.Core.Path.{_≡_, refl, _∙_}
 use mathlib.Core.Bool.{Bool, true, false, not, _&&_}
 use lib.Dec.{eqb}
-use borrow.Author.Tests.{eqb-true}
-use Rattle.rules.specs.declared.Key.{Key}
-use Rattle.rules.specs.Conditions.{sameKey}
 use Rattle.rules.proofs.Bools.{split, no-way}
 use Rattle.conditions.specs.declared.Condition.{Condition}
 use Rattle.conditions.specs.declared.Conditions.{Conditions}
-use Rattle.conditions.specs.Standing.{filled, fresh}
+use Rattle.conditions.specs.Standing.{filled}
 use Rattle.conditions.specs.Soundness.{placeSound, placesSound, clash, noClash, conditionsSound}
 
 -- nothing clashes with an empty place
-pub first-empty : (a b : Condition) (clock : ℕ) → eqb (a .key .kind) 0 ≡ true → clash a b clock ≡ false
+first-empty : (a b : Condition) (clock : ℕ) → eqb (a .key .kind) 0 ≡ true → clash a b clock ≡ false
 unfolding clash
 first-empty a b clock e = rw e
 
@@ -22,10 +19,7 @@ second-empty : (a b : Condition) (clock : ℕ) → eqb (b .key .kind) 0 ≡ true
 unfolding clash
 second-empty a b clock e = split (filled a) (λ f. rw (f, e)) (λ f. rw f)
 
-pub empty-apart : (a b c : Condition) (clock : ℕ) → eqb (a .key .kind) 0 ≡ true → (not (clash a b clock) && not (clash a c clock)) ≡ true
-empty-apart a b c clock e = rw (first-empty a b clock e, first-empty a c clock e)
-
-pub empty-sound : (c : Condition) (clock : ℕ) → eqb (c .key .kind) 0 ≡ true → placeSound c clock ≡ true
+empty-sound : (c : Condition) (clock : ℕ) → eqb (c .key .kind) 0 ≡ true → placeSound c clock ≡ true
 unfolding placeSound
 empty-sound c clock e = rw e
 
@@ -53,34 +47,3 @@ pub none-filled : (cs : Conditions) (clock : ℕ)
     → conditionsSound cs clock ≡ true
 none-filled cs clock e =
     split (eqb (cs .first .key .kind) 0) (λ f. first-alone cs clock (rw f at e) ∙ empty-sound (cs .first) clock f) (λ f. no-way e (rw f))
-
-grouped : (p x y z : Bool) → (p && x && y && z) ≡ (p && (x && y && z))
-grouped true x y z = refl
-grouped false x y z = refl
-
--- the six pairs: the first place with three others, the second with two, the third with one
-pub by-places : (cs : Conditions) (clock : ℕ)
-    → noClash cs clock
-    ≡ ((not (clash (cs .first) (cs .second) clock) && not (clash (cs .first) (cs .third) clock) && not (clash (cs .first) (cs .fourth) clock))
-    && ((not (clash (cs .second) (cs .third) clock) && not (clash (cs .second) (cs .fourth) clock)) && not (clash (cs .third) (cs .fourth) clock)))
-unfolding noClash
-by-places cs clock =
-    grouped (not (clash (cs .first) (cs .second) clock) && not (clash (cs .first) (cs .third) clock) && not (clash (cs .first) (cs .fourth) clock))
-    (not (clash (cs .second) (cs .third) clock)) (not (clash (cs .second) (cs .fourth) clock)) (not (clash (cs .third) (cs .fourth) clock))
-
--- keys alike are of one type
-alike-filled : (a b : Condition) → sameKey (a .key) (b .key) ≡ true → filled b ≡ filled a
-unfolding sameKey
-alike-filled a b e =
-    split (eqb (a .key .kind) (b .key .kind)) (λ k. ap (λ (n : ℕ). not (eqb n 0)) (sym (eqb-true (a .key .kind) (b .key .kind) k)))
-    (λ k. no-way e (rw k))
-
--- so where the first place is filled, a clash is a matter of keys and ages
-pub alike-clash : (a b : Condition) (clock : ℕ) → eqb (a .key .kind) 0 ≡ false → sameKey (a .key) (b .key) ≡ true
-    → clash a b clock ≡ (fresh a clock && fresh b clock)
-unfolding clash
-alike-clash a b clock f e = let g : filled b ≡ true = alike-filled a b e ∙ rw f in rw (g, f, e)
-
-pub unlike-clash : (a b : Condition) (clock : ℕ) → sameKey (a .key) (b .key) ≡ false → clash a b clock ≡ false
-unfolding clash
-unlike-clash a b clock e = split (filled a) (λ f. split (filled b) (λ g. rw (f, g, e)) (λ g. rw (f, g))) (λ f. rw f)

@@ -1,3 +1,5 @@
 pub mod Fading
 pub mod Taken
 pub mod Empties
+pub mod Digests
+pub mod Held

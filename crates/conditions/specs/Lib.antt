@@ -1,3 +1,4 @@
 pub mod Standing
 pub mod Taking
 pub mod Soundness
+pub mod Digests

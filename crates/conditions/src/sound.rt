@@ -5,10 +5,12 @@
 use crate::Condition;
 use crate::Conditions;
 use crate::standing::is_fresh;
+use rules::Key;
 ghost use mathlib.Core.Path.{_≡_};
-ghost use mathlib.Core.Bool.{not, _&&_};
+ghost use mathlib.Core.Bool.{_&&_, _||_};
 ghost use lib.Dec.{eqb};
-ghost use Rattle.conditions.specs.Soundness.{fieldsSound, placeSound, placesSound, clash, noClash, conditionsSound};
+ghost use Rattle.conditions.specs.Soundness.{fieldsSound, placeSound, conditionsSound};
+ghost use Rattle.conditions.specs.Digests.{blankOf, keyDigest, digestOf, alike};
 
 fn fields_sound(kind: u8, present: u8, link: u8, refresh: u8, at: u64, clock: u64) -> bool
     ensures { λ r. ⌜ r ≡ fieldsSound kind present link refresh at clock ⌝ }
@@ -40,78 +42,81 @@ fn place_sound(c: Condition, clock: u64) -> bool
     fields_sound(c.key.kind, c.key.present, c.link, c.refresh, c.at, clock)
 }
 
-// Where the first place is filled and the keys are alike, the second is filled too.
-fn do_clash(a: Condition, b: Condition, clock: u64) -> bool
-    ensures { λ r. ⌜ r ≡ clash a b clock ⌝ }
-{
-    if a.key.kind == 0 {
-        return false;
-    }
-    let one = a.key;
-    let other = b.key;
-    if rules::same_key(one, other) {
-        if is_fresh(a, clock) {
-            return is_fresh(b, clock);
-        }
-    }
-    false
+// What is kept of a place once it has been looked at: whether its fields are sound, and, where its
+// condition stands, a number for its type and for whether it has an IF_ID, and the IF_ID as one word.
+// The tag is 0 where nothing stands. Two numbers in place of a condition's fields: a place is done
+// with before the next one is loaded.
+struct Digest {
+    sound: bool,
+    tag: u64,
+    word: u64,
 }
 
-// Whether a clashes with neither of two others.
-fn apart_from_two(a: Condition, b: Condition, c: Condition, clock: u64) -> bool
-    ensures { λ r. ⌜ r ≡ (not (clash a b clock) && not (clash a c clock)) ⌝ }
+fn blank(sound: bool) -> Digest
+    ensures { λ r. ⌜ r ≡ blankOf sound ⌝ }
 {
-    if a.key.kind == 0 {
+    Digest {
+        sound: sound,
+        tag: 0,
+        word: 0,
+    }
+}
+
+fn key_digest(k: Key) -> Digest
+    ensures { λ r. ⌜ r ≡ keyDigest k ⌝ }
+{
+    let doubled = 2 * k.kind as u64;
+    if k.present == 0 {
+        return Digest {
+            sound: true,
+            tag: doubled,
+            word: 0,
+        };
+    }
+    Digest {
+        sound: true,
+        tag: doubled + 1,
+        word: k.interface as u64 * 4294967296 + k.node as u64,
+    }
+}
+
+fn digest_of(c: Condition, clock: u64) -> Digest
+    ensures { λ r. ⌜ r ≡ digestOf c clock ⌝ }
+{
+    if c.key.kind == 0 {
+        return blank(true);
+    }
+    if fields_sound(c.key.kind, c.key.present, c.link, c.refresh, c.at, clock) {
+        if is_fresh(c, clock) {
+            let key = c.key;
+            return key_digest(key);
+        }
+        return blank(true);
+    }
+    blank(false)
+}
+
+// Whether two standing conditions have one key.
+fn are_alike(x: Digest, y: Digest) -> bool
+    ensures { λ r. ⌜ r ≡ alike x y ⌝ }
+{
+    if y.tag == 0 {
+        return false;
+    }
+    if x.tag != y.tag {
+        return false;
+    }
+    x.word == y.word
+}
+
+// Whether a condition has the key of one of the two before it.
+fn is_alike_to(d: Digest, a: Digest, b: Digest) -> bool
+    ensures { λ r. ⌜ r ≡ (alike a d || alike b d) ⌝ }
+{
+    if are_alike(a, d) {
         return true;
     }
-    if do_clash(a, b, clock) {
-        return false;
-    }
-    let last = do_clash(a, c, clock);
-    !last
-}
-
-// Whether a clashes with none of three others.
-fn apart(a: Condition, b: Condition, c: Condition, d: Condition, clock: u64) -> bool
-    ensures { λ r. ⌜ r ≡ (not (clash a b clock) && not (clash a c clock) && not (clash a d clock)) ⌝ }
-{
-    if do_clash(a, b, clock) {
-        return false;
-    }
-    apart_from_two(a, c, d, clock)
-}
-
-fn none_clash(cs: Conditions, clock: u64) -> bool
-    ensures { λ r. ⌜ r ≡ noClash cs clock ⌝ }
-{
-    let a = cs.first;
-    let b = cs.second;
-    let c = cs.third;
-    let d = cs.fourth;
-    if apart(a, b, c, d, clock) {
-        if apart_from_two(b, c, d, clock) {
-            let last = do_clash(c, d, clock);
-            return !last;
-        }
-    }
-    false
-}
-
-fn places_sound(cs: Conditions, clock: u64) -> bool
-    ensures { λ r. ⌜ r ≡ placesSound cs clock ⌝ }
-{
-    let a = cs.first;
-    let b = cs.second;
-    let c = cs.third;
-    let d = cs.fourth;
-    if place_sound(a, clock) {
-        if place_sound(b, clock) {
-            if place_sound(c, clock) {
-                return place_sound(d, clock);
-            }
-        }
-    }
-    false
+    are_alike(b, d)
 }
 
 fn three_empty(second: u8, third: u8, fourth: u8) -> bool
@@ -135,13 +140,43 @@ fn four_empty(first: u8, second: u8, third: u8, fourth: u8) -> bool
     three_empty(second, third, fourth)
 }
 
+// Where several places are filled: each is looked at once, and compared with those before it.
 fn several_sound(cs: Conditions, clock: u64) -> bool
     ensures { λ r. ⌜ r ≡ conditionsSound cs clock ⌝ }
 {
-    if places_sound(cs, clock) {
-        return none_clash(cs, clock);
+    let first = cs.first;
+    let a = digest_of(first, clock);
+    if !a.sound {
+        return false;
     }
-    false
+    let second = cs.second;
+    let b = digest_of(second, clock);
+    if !b.sound {
+        return false;
+    }
+    if are_alike(a, b) {
+        return false;
+    }
+    let third = cs.third;
+    let c = digest_of(third, clock);
+    if !c.sound {
+        return false;
+    }
+    if is_alike_to(c, a, b) {
+        return false;
+    }
+    let fourth = cs.fourth;
+    let d = digest_of(fourth, clock);
+    if !d.sound {
+        return false;
+    }
+    if is_alike_to(d, a, b) {
+        return false;
+    }
+    if are_alike(c, d) {
+        return false;
+    }
+    true
 }
 
 // The clauses of 26 for the four places.
