@@ -1,7 +1,7 @@
-// Refusal 26 for the four places: early returns over numbers, nothing asked of an empty place, keys
-// compared only where two places are filled, ages last. This is asked of every open session on every
-// call, and most of them hold no condition or one: those two cases are tested first, on the types
-// alone, so that nothing else is loaded.
+// Refusal 26 for the four places: early returns over numbers, nothing asked of an empty place. This is
+// asked of every open session on every call, and most of them hold no condition or one: those two
+// cases are tested first, on the types alone, so that nothing else is loaded. Where there are more,
+// each place is looked at once, and only what tells its key is kept for the comparisons.
 use crate::Condition;
 use crate::Conditions;
 use crate::standing::is_fresh;
