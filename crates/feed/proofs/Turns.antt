@@ -14,7 +14,7 @@ use Rattle.step.specs.Stepping.{rowStep, rowAfter}
 use Rattle.capture.specs.declared.Record.{Record}
 use Rattle.capture.specs.declared.Next.the-variants.{Whole, Broken, Short, End}
 use Rattle.capture.specs.Records.{recordIn, nextIn, nextOf, isBroken}
-use Rattle.row.proofs.Recs.{is-true, is-false}
+use Rattle.row.proofs.Branches.{held-is, failed-is}
 use Rattle.feed.specs.Feeding.{longest, isWhole, sizeOf, moreOf, Answered, answered, Flow, requestIn, turnOf, goOn, feedOf}
 use Rattle.feed.specs.declared.Fed.{Fed}
 
@@ -74,11 +74,11 @@ is-turn input row f out c e₁ r zs e₂ g ps e₃ =
 pub stops : (input : List ℕ) (n : ℕ) (row : List Session) (f : Fed) (out : List ℕ) → Holds (not (moreOf f input (length out))) → goOn input n (flow row f out) ≡ flow row f out
 unfolding goOn
 stops input zero row f out h = refl
-stops input (suc n) row f out h = ap (λ (t : Bool). cond t (goOn input n (turnOf input (flow row f out))) (flow row f out)) (is-false (moreOf f input (length out)) h)
+stops input (suc n) row f out h = ap (λ (t : Bool). cond t (goOn input n (turnOf input (flow row f out))) (flow row f out)) (failed-is (moreOf f input (length out)) h)
 
 pub goes-on : (input : List ℕ) (n : ℕ) (row : List Session) (f : Fed) (out : List ℕ) → Holds (moreOf f input (length out)) → goOn input (suc n) (flow row f out) ≡ goOn input n (turnOf input (flow row f out))
 unfolding goOn
-goes-on input n row f out h = ap (λ (t : Bool). cond t (goOn input n (turnOf input (flow row f out))) (flow row f out)) (is-true (moreOf f input (length out)) h)
+goes-on input n row f out h = ap (λ (t : Bool). cond t (goOn input n (turnOf input (flow row f out))) (flow row f out)) (held-is (moreOf f input (length out)) h)
 
 pub begins : (row : List Session) (f : Fed) (input out : List ℕ) → goOn input (length input) (flow row f out) ≡ feedOf row f input out
 unfolding feedOf

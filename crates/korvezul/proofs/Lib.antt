@@ -1,6 +1,6 @@
 pub mod OneStep
 pub mod Fold
-pub mod Refs
+pub mod LentValue
 pub mod CallPlains
 pub mod ThinEnd
 pub mod ThinCall

@@ -40,12 +40,14 @@ use Rattle.step.specs.declared.Outcome.{Outcome}
 use Rattle.step.specs.Requests.{requestOf}
 use Rattle.step.specs.Stepping.{tableOf, rowStep, rowAfter}
 use Rattle.step.proofs.TableStep.{saidOf}
-use Rattle.row.proofs.Recs.{R, slice, Mut, frees-at}
-use Rattle.row.proofs.Asked.{asks}
+use Rattle.row.proofs.LentSlice.{slice, Mutable}
+use Rattle.row.proofs.RecordOfRow.{Record}
+use Rattle.row.proofs.Callee.{callee-answers}
+use Rattle.row.proofs.Locals.{frees-stored}
 use Rattle.row.proofs.Plains.{Plain, headP, requestP, outcomeP}
 use Rattle.korvezul.specs.Calling.{called}
 use Rattle.korvezul.proofs.OneStep.{one-step}
-use Rattle.korvezul.proofs.Refs.{ref, Ref}
+use Rattle.korvezul.proofs.LentValue.{reference, Lent}
 use Rattle.korvezul.proofs.obey_lent as ol
 use Rattle.korvezul.proofs.obey_lent.Symbol.{name as #korvezul·obey-lent}
 
@@ -56,7 +58,7 @@ module _ (s : Ty → Ty) where
 
   abbrev pub ending : ℕ → Name → Body
   ending n k =
-      seq (assign (place (n + 2) []) (addrOf (place 1 (field 0 ∷ deref (s (pointee (R .written))) ∷ []))))
+      seq (assign (place (n + 2) []) (addrOf (place 1 (field 0 ∷ deref (s (pointee (Record .written))) ∷ []))))
       (seq (assign (place (n + 3) []) (aggregate (copy (place (n + 2) []) ∷ copy (place 1 (field 1 ∷ [])) ∷ [])))
       (seq (assign (place (n + 4) []) (addrOf (place 2 (deref (spelled headP) ∷ []))))
       (seq (call #korvezul·obey-lent (copy (place (n + 3) []) ∷ copy (place (n + 4) []) ∷ copy (place n []) ∷ []) (place (n + 1) []))
@@ -67,16 +69,16 @@ module _ (s : Ty → Ty) where
 
 -- the types of the slice and of the head, as a parameter and passed on
 abbrev pub rowTy : Ty
-rowTy = sliceTy (tyRef (named 0) mut (pointee (R .written)))
+rowTy = sliceTy (tyRef (named 0) mut (pointee (Record .written)))
 
 abbrev pub headTy : Ty
 headTy = tyRef (named 1) mut (pointee (headP .T .written))
 
 abbrev pub atTy : Ty
-atTy = tyRef erased mut (pointee (R .written))
+atTy = tyRef erased mut (pointee (Record .written))
 
 abbrev pub rowOnTy : Ty
-rowOnTy = sliceTy (tyRef erased mut (pointee (R .written)))
+rowOnTy = sliceTy (tyRef erased mut (pointee (Record .written)))
 
 abbrev pub headOnTy : Ty
 headOnTy = tyRef erased mut (pointee (headP .T .written))
@@ -100,7 +102,7 @@ module _ (S : Plain) where
 found : {M : Type 1} {𝓤 : URA M} {H : Heap 𝓤} {A : Atoms 𝓤} {K : Type 0} {W : Given 𝓤 H A} {Γ : List (Item 𝓤)} {E : Env 𝓤 H} → K → {i : ℕ} {sp : Spot 𝓤 H} → spotOf 𝓤 H E i ≡ sp → Finds K W Γ E (place i []) sp
 found {𝓤 = 𝓤} {H = H} {A = A} {Γ = Γ} t e = record { go = λ Kt h. subst (λ (p : Spot 𝓤 H). ent 𝓤 (⋆ 𝓤 H A Γ) (Kt p)) (sym e) h }
 
-module _ (S : Plain) (ψ : Outcome → S .T .Denot) {M : Type 1} (𝓤 : URA M) (H : Heap 𝓤) (A : Atoms 𝓤) (W : Given 𝓤 H A) (mem : Memory → SProp 𝓤) (run : Routine → Fun 𝓤) (κ κ′ : Lft) (q q′ : Share) (b o : ℕ) (γ : GName) (ys : List Session) (b′ o′ : ℕ) (γ′ : GName) (h : Head) (room : Room R (length ys))
+module _ (S : Plain) (ψ : Outcome → S .T .Denot) {M : Type 1} (𝓤 : URA M) (H : Heap 𝓤) (A : Atoms 𝓤) (W : Given 𝓤 H A) (mem : Memory → SProp 𝓤) (run : Routine → Fun 𝓤) (κ κ′ : Lft) (q q′ : Share) (b o : ℕ) (γ : GName) (ys : List Session) (b′ o′ : ℕ) (γ′ : GName) (h : Head) (room : Room Record (length ys))
     (d : Call) (view : S .T .Denot → Said) (v-says : (u : Outcome) → view (ψ u) ≡ saidOf d u) (c : Request) (c-makes : c ≡ requestOf d) (cv : Val) (c-is : Is (requestP .T) c (cv ∷ [])) where
   -- what the contract says of an answer, a last row and a last head
   abbrev Says : S .T .Denot → List Session → Head → Type 0
@@ -116,14 +118,14 @@ module _ (S : Plain) (ψ : Outcome → S .T .Denot) {M : Type 1} (𝓤 : URA M) 
 
   -- what each callee is passed, and asks
   abbrev to-ol : ObeyLent 𝓤 H A mem run .Ghost
-  to-ol = (((κ, (κ′, tt)), (q, (q′, tt)), tt, (slice γ b o ys, (ref headP γ′ b′ o′ h, (c, tt))), (sv ∷ [], (vptr b′ o′ ∷ [], (cv ∷ [], tt)))), tt)
+  to-ol = (((κ, (κ′, tt)), (q, (q′, tt)), tt, (slice Record γ b o ys, (reference headP γ′ b′ o′ h, (c, tt))), (sv ∷ [], (vptr b′ o′ ∷ [], (cv ∷ [], tt)))), tt)
 
   abbrev to-h : Outcome → Val → Answers S ψ 𝓤 H A .Ghost
   to-h u w = ((tt, tt, tt, (u, tt), (w ∷ [], tt)), tt)
 
-  goes-ol : ent 𝓤 (⋆ 𝓤 H A ((‵ (flft κ q) ⊛ ‵ (flft κ′ q′)) ∷ ‵ (Ref headP κ′ γ′ b′ o′ h) ∷ ‵ (Mut κ γ b o (length ys) ys) ∷ [])) (ObeyLent 𝓤 H A mem run .pre to-ol)
+  goes-ol : ent 𝓤 (⋆ 𝓤 H A ((‵ (flft κ q) ⊛ ‵ (flft κ′ q′)) ∷ ‵ (Lent headP κ′ γ′ b′ o′ h) ∷ ‵ (Mutable Record κ γ b o (length ys) ys) ∷ [])) (ObeyLent 𝓤 H A mem run .pre to-ol)
   goes-ol =
-      qed W ((‵ (flft κ q) ⊛ ‵ (flft κ′ q′)) ∷ ‵ (Ref headP κ′ γ′ b′ o′ h) ∷ ‵ (Mut κ γ b o (length ys) ys) ∷ []) ∵ nothing ! $ owned ! (requestP .T) (Is (requestP .T)) (requestP .makes 𝓤 H A W) c _ c-is $ fjoin ! $ move ! (2 ∷ 0 ∷ []) $ fjoin ! $ move ! (2 ∷ 0 ∷ []) $ fjoin ! $
+      qed W ((‵ (flft κ q) ⊛ ‵ (flft κ′ q′)) ∷ ‵ (Lent headP κ′ γ′ b′ o′ h) ∷ ‵ (Mutable Record κ γ b o (length ys) ys) ∷ []) ∵ nothing ! $ owned ! (requestP .T) (Is (requestP .T)) (requestP .makes 𝓤 H A W) c _ c-is $ fjoin ! $ move ! (2 ∷ 0 ∷ []) $ fjoin ! $ move ! (2 ∷ 0 ∷ []) $ fjoin ! $
       move ! (1 ∷ []) $ split ! $ nothing ! $ move ! (2 ∷ 0 ∷ []) $ join ! $ move ! (1 ∷ 0 ∷ []) $ join ! $ join ! $ frame ! $ done !
 
   goes-h : (u : Outcome) (w : Val) → Is (outcomeP .T) u (w ∷ []) → ent 𝓤 (emp 𝓤) (Answers S ψ 𝓤 H A .pre (to-h u w))
@@ -131,7 +133,7 @@ module _ (S : Plain) (ψ : Outcome → S .T .Denot) {M : Type 1} (𝓤 : URA M) 
 
   -- The walk. The caller's arguments are the locals of `args` between the head and q, and X is what it holds of them; `free-args` frees them.
   module _ (C : Calls 𝓤 H) (Λ : Loops 𝓤 H) (fm : FmC 𝓤 H (W .laws) C) (k : Name) (known-ol : Triple 𝓤 (C #korvezul·obey-lent) (ObeyLent 𝓤 H A mem run)) (known-h : Triple 𝓤 (C k) (Answers S ψ 𝓤 H A)) (Post : Val → SProp 𝓤)
-      (exits : (w : Val) (r : S .T .Denot) (zs : List Session) (h′ : Head) → Is (S .T) r (w ∷ []) → Says r zs h′ → length zs ≡ length ys → ent 𝓤 (⋆ 𝓤 H A (‵ (fres γ′ (headP .T .coded .code h′)) ∷ ‵ (flft κ′ q′) ∷ ‵ (finally R γ zs) ∷ ‵ (flft κ q) ∷ [])) (Post w))
+      (exits : (w : Val) (r : S .T .Denot) (zs : List Session) (h′ : Head) → Is (S .T) r (w ∷ []) → Says r zs h′ → length zs ≡ length ys → ent 𝓤 (⋆ 𝓤 H A (‵ (fres γ′ (headP .T .coded .code h′)) ∷ ‵ (flft κ′ q′) ∷ ‵ (finally Record γ zs) ∷ ‵ (flft κ q) ∷ [])) (Post w))
       (s : Ty → Ty) (ty-S : Spelled s S) (ty-o : Spelled s outcomeP) (l₀ l₁ l₂ lq lo lp lr lh : ℕ) (args : Env 𝓤 H) (X : Item 𝓤) (n : ℕ) where
     abbrev rest : Env 𝓤 H
     rest = (spelled s requestP, lq) ∷ (spelled s outcomeP, lo) ∷ (atTy, lp) ∷ (rowOnTy, lr) ∷ (headOnTy, lh) ∷ []
@@ -140,7 +142,7 @@ module _ (S : Plain) (ψ : Outcome → S .T .Denot) {M : Type 1} (𝓤 : URA M) 
     En = (spelled s S, l₀) ∷ (rowTy, l₁) ∷ (headTy, l₂) ∷ args
 
     abbrev Held : List (Item 𝓤)
-    Held = ‵ (Ref headP κ′ γ′ b′ o′ h) ∷ ‵ (flft κ′ q′) ∷ ‵ (Mut κ γ b o (length ys) ys) ∷ ‵ (flft κ q) ∷ X ∷ ‵ (froom headOnTy lh 0) ∷ ‵ (fdies headOnTy lh) ∷ ‵ (froom rowOnTy lr 0) ∷ ‵ (fdies rowOnTy lr) ∷ ‵ (froom atTy lp 0) ∷ ‵ (fdies atTy lp)
+    Held = ‵ (Lent headP κ′ γ′ b′ o′ h) ∷ ‵ (flft κ′ q′) ∷ ‵ (Mutable Record κ γ b o (length ys) ys) ∷ ‵ (flft κ q) ∷ X ∷ ‵ (froom headOnTy lh 0) ∷ ‵ (fdies headOnTy lh) ∷ ‵ (froom rowOnTy lr 0) ∷ ‵ (fdies rowOnTy lr) ∷ ‵ (froom atTy lp 0) ∷ ‵ (fdies atTy lp)
         ∷ ‵ (froom (spelled s outcomeP) lo 0) ∷ ‵ (fdies (spelled s outcomeP) lo) ∷ ‵ (fat fullShare (spelled s requestP) lq 0 cv) ∷ ‵ (fdies (spelled s requestP) lq) ∷ ‵ (fat fullShare headTy l₂ 0 (vptr b′ o′)) ∷ ‵ (fdies headTy l₂) ∷ ‵ (fat fullShare rowTy l₁ 0 sv) ∷ ‵ (fdies rowTy l₁)
         ∷ ‵ (froom (spelled s S) l₀ 0) ∷ ‵ (fdies (spelled s S) l₀) ∷ []
 
@@ -154,13 +156,13 @@ module _ (S : Plain) (ψ : Outcome → S .T .Denot) {M : Type 1} (𝓤 : URA M) 
         assigns ! (addr ! (from ! (hop ! (look ! 15 refl) (stop !)))) (found ! eh) (init ! 5 refl (tt, tt)) $
         -- row and head are passed on, each at its own lifetime, share and name
         move ! (3 ∷ 1 ∷ []) $ join ! $ use3 W (raw (ObeyLent 𝓤 H A mem run .pre to-ol)) goes-ol $
-        asks ! fm ol.ended (ol.clauses 𝓤 H A mem run) known-ol to-ol (and-then ! (load ! (found ! er) (look ! 4 refl)) (and-then ! (load ! (found ! eh) (look ! 2 refl)) (and-then ! (load ! (found ! eq) (look ! 10 refl)) (no-more !))))
+        callee-answers ! fm ol.ended (ol.clauses 𝓤 H A mem run) known-ol to-ol (and-then ! (load ! (found ! er) (look ! 4 refl)) (and-then ! (load ! (found ! eh) (look ! 2 refl)) (and-then ! (load ! (found ! eq) (look ! 10 refl)) (no-more !))))
         (λ u zs. (u ≡ rowStep ys h c .outcome) × ((zs .0 ≡ rowAfter ys h c) × (zs .1 .0 ≡ rowStep ys h c .outcome .head))) (λ _ _. id⊢ 𝓤 _) (λ w₁ u zs e₁ was₁.
         use1 W (‵ (flft κ q) ⊛ ‵ (flft κ′ q′) ⊛ ‵ ftrue) (id⊢ 𝓤 _) $ split3 ! $ move ! (3 ∷ []) $ fsplit ! $ fsplit ! $ move ! (1 ∷ []) $ feqL ! (λ len. move ! (1 ∷ []) $ fsplit ! $ move ! (6 ∷ 0 ∷ 4 ∷ 2 ∷ 3 ∷ []) $
         -- [X; what says the last head; its token; what says the last row; its token; true; true; the head passed on; …]
         land ! (found ! eo) (init ! 13 refl (ty-o u _ was₁)) $
         use0 W (raw (Answers S ψ 𝓤 H A .pre (to-h u w₁))) (goes-h u w₁ was₁) $
-        asks ! fm (h-ended S) (answers S ψ 𝓤) known-h (to-h u w₁) (and-then ! (load ! (found ! eo) (look ! 14 refl)) (no-more !)) (λ r _. r ≡ ψ u) (λ _ _. id⊢ 𝓤 _) (λ w₂ r _ e₂ was₂. drop ! $ drop ! $
+        callee-answers ! fm (h-ended S) (answers S ψ 𝓤) known-h (to-h u w₁) (and-then ! (load ! (found ! eo) (look ! 14 refl)) (no-more !)) (λ r _. r ≡ ψ u) (λ _ _. id⊢ 𝓤 _) (λ w₂ r _ e₂ was₂. drop ! $ drop ! $
         land ! (from ! (stop !)) (init ! 21 refl (ty-S r _ was₂)) $ returns ! {r = w₂} (look ! 21 refl) $
-        frees-at ! 21 refl refl $ frees-at ! 19 refl refl $ frees-at ! 17 refl refl $ free-args _ _ $ frees-at ! 14 refl refl $ frees-at ! 12 refl refl $ frees-at ! 10 refl refl $ frees-at ! 8 refl refl $ frees-at ! 6 refl refl $ free0 ! $
+        frees-stored ! 21 refl refl $ frees-stored ! 19 refl refl $ frees-stored ! 17 refl refl $ free-args _ _ $ frees-stored ! 14 refl refl $ frees-stored ! 12 refl refl $ frees-stored ! 10 refl refl $ frees-stored ! 8 refl refl $ frees-stored ! 6 refl refl $ free0 ! $
         keep ! (0 ∷ 1 ∷ 2 ∷ 3 ∷ []) $ by ! (exits w₂ r (zs .0) (zs .1 .0) was₂ (said u (zs .0) (zs .1 .0) e₁ r e₂) len))))

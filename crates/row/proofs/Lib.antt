@@ -1,8 +1,11 @@
-pub mod Recs
-pub mod Asked
-pub mod Again
-pub mod RecAgain
 pub mod Plains
-pub mod Lends
+pub mod LentSlice
+pub mod LentOn
+pub mod OneElement
+pub mod RecordOfRow
+pub mod Callee
+pub mod Branches
+pub mod Locals
+pub mod ByWalk
 pub mod WordArray
 pub mod TypeParts

@@ -2,7 +2,6 @@
 --     words-val            an array's machine value
 --     repeat-is, repeat-val    `[x; n]`: the relation, and its machine value
 --     words-typed          the machine value is of its MIR type
---     ShrS                 what a `&[u64]` owns, at n elements and a list
 --     lent-out             the local's cell becomes a `&mut [u64]` at a new name, for the lifetime κ, and the lender's part.        got-back         once κ is over: the lender's part and the callee's last list are the local's cell again
 --     lent-shared-out      the same of a `&[u64]`.        got-shared-back      once κ is over: the cell again, as it was
 -- Assumes `Given`.
@@ -29,11 +28,11 @@ use denote.Plain.{uint-vals, uint-tells, uint-makes, uint-lawful}
 use denote.Builtin.{u64}
 use denote.Array.{Array, arrayVal, each, array-tells, array-lawful, array-makes}
 use denote.ArrayMemory.{array-apart, array-whole}
-use denote.Slice.{sliceVal, ShrSlice, Room, finally}
+use denote.Slice.{Room, finally}
 use denote.Lend.{Held, lends-slice, slice-back, lends-shr-slice}
 use denote.Index.{row, whole-out, whole-in}
 use denote.Steps.{owned, facts}
-use Rattle.row.proofs.Lends.{sliceOf, MutS}
+use Rattle.row.proofs.LentSlice.{Shared, Mutable}
 
 abbrev pub words-val : List ℕ → Val
 words-val ys = arrayVal (map (vint w64) ys)
@@ -52,9 +51,6 @@ repeat-val (suc n) x = ap {B = List Val} (λ us. vint w64 x ∷ us) (repeat-val 
 
 pub words-typed : {M : Type 1} (𝓤 : URA M) (H : Heap 𝓤) (A : Atoms 𝓤) → Given 𝓤 H A → (n : ℕ) (ys : List ℕ) → Is (Array u64 n) ys (words-val ys ∷ []) → Holds (hasTy (tyArray (tyInt w64) n) (words-val ys)) × WT (words-val ys)
 words-typed 𝓤 H A W n ys is = array-lawful 𝓤 H A W u64 (uint-lawful 𝓤 H A W w64) n .typed ys (words-val ys ∷ []) is .0
-
-abbrev pub ShrS : Lft → GName → ℕ → ℕ → ℕ → List ℕ → Fml
-ShrS κ γ b o n ys = ShrSlice (named 0) κ u64 .own (sliceOf u64 γ b o ys) (sliceVal (b, o) n ∷ [])
 
 -- what the lender keeps of a shared lend
 abbrev pub Parts : ℕ → List ℕ → Fml
@@ -82,11 +78,11 @@ module _ {M : Type 1} {𝓤 : URA M} {H : Heap 𝓤} {A : Atoms 𝓤} {K : Type 
 
 module _ {M : Type 1} {𝓤 : URA M} {H : Heap 𝓤} {A : Atoms 𝓤} {K : Type 0} {W : Given 𝓤 H A} {Γ : List (Item 𝓤)} {G : Goal 𝓤 H} where
   pub lent-out : K → Soaks G → (κ : Lft) (n : ℕ) (b : ℕ) (ys : List ℕ) → Is (Array u64 n) ys (words-val ys ∷ []) → Room u64 (length ys)
-      → ((γ : GName) → Seq K W (‵ (MutS u64 κ γ b 0 (length ys) ys) ∷ ‵ (flent κ (Held u64 (length ys) b 0 γ)) ∷ Γ) G)
+      → ((γ : GName) → Seq K W (‵ (Mutable u64 κ γ b 0 (length ys) ys) ∷ ‵ (flent κ (Held u64 (length ys) b 0 γ)) ∷ Γ) G)
       → Seq K W (‵ (fat fullShare (tyArray (tyInt w64) n) b 0 (words-val ys)) ∷ Γ) G
   lent-out t z κ n b ys is room k =
       apart t n b ys is $ fsplit t $ feqL t (λ _. use1 W (‵ (cells (mem u64) ys b 0)) (whole-in 𝓤 H A W u64 ys b 0) $
-      use1 W (later (some (λ (γ : GName). ‵ (MutS u64 κ γ b 0 (length ys) ys) ⊛ ‵ (flent κ (Held u64 (length ys) b 0 γ))))) (lends-slice 𝓤 H A W u64 (named 0) κ ys b 0 room) $ await t z $ pick t (λ γ. split t $ k γ))
+      use1 W (later (some (λ (γ : GName). ‵ (Mutable u64 κ γ b 0 (length ys) ys) ⊛ ‵ (flent κ (Held u64 (length ys) b 0 γ))))) (lends-slice 𝓤 H A W u64 (named 0) κ ys b 0 room) $ await t z $ pick t (λ γ. split t $ k γ))
 
   pub got-back : K → Soaks G → (κ : Lft) (n : ℕ) (b : ℕ) (γ : GName) (zs : List ℕ)
       → (Is (Array u64 n) zs (words-val zs ∷ []) → Seq K W (‵ (fat fullShare (tyArray (tyInt w64) n) b 0 (words-val zs)) ∷ Γ) G)
@@ -96,11 +92,11 @@ module _ {M : Type 1} {𝓤 : URA M} {H : Heap 𝓤} {A : Atoms 𝓤} {K : Type 
       use1 W (‵ (row u64 fullShare zs b 0)) (whole-out 𝓤 H A W u64 zs b 0) $ feqI t ℕ (length zs) (length zs) refl $ fjoin t $ together t n b zs e k)
 
   pub lent-shared-out : K → Soaks G → (κ : Lft) (n : ℕ) (b : ℕ) (ys : List ℕ) → Is (Array u64 n) ys (words-val ys ∷ []) → Room u64 (length ys)
-      → ((γ : GName) → Seq K W (‵ (ShrS κ γ b 0 (length ys) ys) ∷ ‵ (flent κ (Parts b ys)) ∷ Γ) G)
+      → ((γ : GName) → Seq K W (‵ (Shared u64 κ γ b 0 (length ys) ys) ∷ ‵ (flent κ (Parts b ys)) ∷ Γ) G)
       → Seq K W (‵ (fat fullShare (tyArray (tyInt w64) n) b 0 (words-val ys)) ∷ Γ) G
   lent-shared-out t z κ n b ys is room k =
       apart t n b ys is $
-      use1 W (later (some (λ (γ : GName). ‵ (ShrS κ γ b 0 (length ys) ys) ⊛ ‵ (flent κ (Parts b ys))))) (lends-shr-slice 𝓤 H A W u64 (named 0) κ fullShare ys b 0 room) $ await t z $ pick t (λ γ. split t $ k γ)
+      use1 W (later (some (λ (γ : GName). ‵ (Shared u64 κ γ b 0 (length ys) ys) ⊛ ‵ (flent κ (Parts b ys))))) (lends-shr-slice 𝓤 H A W u64 (named 0) κ fullShare ys b 0 room) $ await t z $ pick t (λ γ. split t $ k γ)
 
   pub got-shared-back : K → Soaks G → (κ : Lft) (n : ℕ) (b : ℕ) (ys : List ℕ) → length ys ≡ n
       → Step K W (‵ (fat fullShare (tyArray (tyInt w64) n) b 0 (words-val ys)) ∷ Γ) G (‵ (fdead κ) ∷ ‵ (flent κ (Parts b ys)) ∷ Γ) G
