@@ -41,7 +41,7 @@ use Rattle.step.specs.Requests.{requestOf}
 use Rattle.step.specs.Stepping.{tableOf, rowStep, rowAfter}
 use Rattle.step.proofs.TableStep.{saidOf}
 use Rattle.row.proofs.LentSlice.{slice, Mutable}
-use Rattle.row.proofs.RecordOfRow.{Record}
+use Rattle.row.proofs.RecordOfRow.{RowRecord}
 use Rattle.row.proofs.Callee.{callee-answers}
 use Rattle.row.proofs.Locals.{frees-stored}
 use Rattle.row.proofs.Plains.{Plain, headP, requestP, outcomeP}
@@ -58,7 +58,7 @@ module _ (s : Ty → Ty) where
 
   abbrev pub ending : ℕ → Name → Body
   ending n k =
-      seq (assign (place (n + 2) []) (addrOf (place 1 (field 0 ∷ deref (s (pointee (Record .written))) ∷ []))))
+      seq (assign (place (n + 2) []) (addrOf (place 1 (field 0 ∷ deref (s (pointee (RowRecord .written))) ∷ []))))
       (seq (assign (place (n + 3) []) (aggregate (copy (place (n + 2) []) ∷ copy (place 1 (field 1 ∷ [])) ∷ [])))
       (seq (assign (place (n + 4) []) (addrOf (place 2 (deref (spelled headP) ∷ []))))
       (seq (call #korvezul·obey-lent (copy (place (n + 3) []) ∷ copy (place (n + 4) []) ∷ copy (place n []) ∷ []) (place (n + 1) []))
@@ -69,16 +69,16 @@ module _ (s : Ty → Ty) where
 
 -- the types of the slice and of the head, as a parameter and passed on
 abbrev pub rowTy : Ty
-rowTy = sliceTy (tyRef (named 0) mut (pointee (Record .written)))
+rowTy = sliceTy (tyRef (named 0) mut (pointee (RowRecord .written)))
 
 abbrev pub headTy : Ty
 headTy = tyRef (named 1) mut (pointee (headP .T .written))
 
 abbrev pub atTy : Ty
-atTy = tyRef erased mut (pointee (Record .written))
+atTy = tyRef erased mut (pointee (RowRecord .written))
 
 abbrev pub rowOnTy : Ty
-rowOnTy = sliceTy (tyRef erased mut (pointee (Record .written)))
+rowOnTy = sliceTy (tyRef erased mut (pointee (RowRecord .written)))
 
 abbrev pub headOnTy : Ty
 headOnTy = tyRef erased mut (pointee (headP .T .written))
@@ -102,7 +102,7 @@ module _ (S : Plain) where
 found : {M : Type 1} {𝓤 : URA M} {H : Heap 𝓤} {A : Atoms 𝓤} {K : Type 0} {W : Given 𝓤 H A} {Γ : List (Item 𝓤)} {E : Env 𝓤 H} → K → {i : ℕ} {sp : Spot 𝓤 H} → spotOf 𝓤 H E i ≡ sp → Finds K W Γ E (place i []) sp
 found {𝓤 = 𝓤} {H = H} {A = A} {Γ = Γ} t e = record { go = λ Kt h. subst (λ (p : Spot 𝓤 H). ent 𝓤 (⋆ 𝓤 H A Γ) (Kt p)) (sym e) h }
 
-module _ (S : Plain) (ψ : Outcome → S .T .Denot) {M : Type 1} (𝓤 : URA M) (H : Heap 𝓤) (A : Atoms 𝓤) (W : Given 𝓤 H A) (mem : Memory → SProp 𝓤) (run : Routine → Fun 𝓤) (κ κ′ : Lft) (q q′ : Share) (b o : ℕ) (γ : GName) (ys : List Session) (b′ o′ : ℕ) (γ′ : GName) (h : Head) (room : Room Record (length ys))
+module _ (S : Plain) (ψ : Outcome → S .T .Denot) {M : Type 1} (𝓤 : URA M) (H : Heap 𝓤) (A : Atoms 𝓤) (W : Given 𝓤 H A) (mem : Memory → SProp 𝓤) (run : Routine → Fun 𝓤) (κ κ′ : Lft) (q q′ : Share) (b o : ℕ) (γ : GName) (ys : List Session) (b′ o′ : ℕ) (γ′ : GName) (h : Head) (room : Room RowRecord (length ys))
     (d : Call) (view : S .T .Denot → Said) (v-says : (u : Outcome) → view (ψ u) ≡ saidOf d u) (c : Request) (c-makes : c ≡ requestOf d) (cv : Val) (c-is : Is (requestP .T) c (cv ∷ [])) where
   -- what the contract says of an answer, a last row and a last head
   abbrev Says : S .T .Denot → List Session → Head → Type 0
@@ -118,14 +118,14 @@ module _ (S : Plain) (ψ : Outcome → S .T .Denot) {M : Type 1} (𝓤 : URA M) 
 
   -- what each callee is passed, and asks
   abbrev to-ol : ObeyLent 𝓤 H A mem run .Ghost
-  to-ol = (((κ, (κ′, tt)), (q, (q′, tt)), tt, (slice Record γ b o ys, (reference headP γ′ b′ o′ h, (c, tt))), (sv ∷ [], (vptr b′ o′ ∷ [], (cv ∷ [], tt)))), tt)
+  to-ol = (((κ, (κ′, tt)), (q, (q′, tt)), tt, (slice RowRecord γ b o ys, (reference headP γ′ b′ o′ h, (c, tt))), (sv ∷ [], (vptr b′ o′ ∷ [], (cv ∷ [], tt)))), tt)
 
   abbrev to-h : Outcome → Val → Answers S ψ 𝓤 H A .Ghost
   to-h u w = ((tt, tt, tt, (u, tt), (w ∷ [], tt)), tt)
 
-  goes-ol : ent 𝓤 (⋆ 𝓤 H A ((‵ (flft κ q) ⊛ ‵ (flft κ′ q′)) ∷ ‵ (Lent headP κ′ γ′ b′ o′ h) ∷ ‵ (Mutable Record κ γ b o (length ys) ys) ∷ [])) (ObeyLent 𝓤 H A mem run .pre to-ol)
+  goes-ol : ent 𝓤 (⋆ 𝓤 H A ((‵ (flft κ q) ⊛ ‵ (flft κ′ q′)) ∷ ‵ (Lent headP κ′ γ′ b′ o′ h) ∷ ‵ (Mutable RowRecord κ γ b o (length ys) ys) ∷ [])) (ObeyLent 𝓤 H A mem run .pre to-ol)
   goes-ol =
-      qed W ((‵ (flft κ q) ⊛ ‵ (flft κ′ q′)) ∷ ‵ (Lent headP κ′ γ′ b′ o′ h) ∷ ‵ (Mutable Record κ γ b o (length ys) ys) ∷ []) ∵ nothing ! $ owned ! (requestP .T) (Is (requestP .T)) (requestP .makes 𝓤 H A W) c _ c-is $ fjoin ! $ move ! (2 ∷ 0 ∷ []) $ fjoin ! $ move ! (2 ∷ 0 ∷ []) $ fjoin ! $
+      qed W ((‵ (flft κ q) ⊛ ‵ (flft κ′ q′)) ∷ ‵ (Lent headP κ′ γ′ b′ o′ h) ∷ ‵ (Mutable RowRecord κ γ b o (length ys) ys) ∷ []) ∵ nothing ! $ owned ! (requestP .T) (Is (requestP .T)) (requestP .makes 𝓤 H A W) c _ c-is $ fjoin ! $ move ! (2 ∷ 0 ∷ []) $ fjoin ! $ move ! (2 ∷ 0 ∷ []) $ fjoin ! $
       move ! (1 ∷ []) $ split ! $ nothing ! $ move ! (2 ∷ 0 ∷ []) $ join ! $ move ! (1 ∷ 0 ∷ []) $ join ! $ join ! $ frame ! $ done !
 
   goes-h : (u : Outcome) (w : Val) → Is (outcomeP .T) u (w ∷ []) → ent 𝓤 (emp 𝓤) (Answers S ψ 𝓤 H A .pre (to-h u w))
@@ -133,7 +133,7 @@ module _ (S : Plain) (ψ : Outcome → S .T .Denot) {M : Type 1} (𝓤 : URA M) 
 
   -- The walk. The caller's arguments are the locals of `args` between the head and q, and X is what it holds of them; `free-args` frees them.
   module _ (C : Calls 𝓤 H) (Λ : Loops 𝓤 H) (fm : FmC 𝓤 H (W .laws) C) (k : Name) (known-ol : Triple 𝓤 (C #korvezul·obey-lent) (ObeyLent 𝓤 H A mem run)) (known-h : Triple 𝓤 (C k) (Answers S ψ 𝓤 H A)) (Post : Val → SProp 𝓤)
-      (exits : (w : Val) (r : S .T .Denot) (zs : List Session) (h′ : Head) → Is (S .T) r (w ∷ []) → Says r zs h′ → length zs ≡ length ys → ent 𝓤 (⋆ 𝓤 H A (‵ (fres γ′ (headP .T .coded .code h′)) ∷ ‵ (flft κ′ q′) ∷ ‵ (finally Record γ zs) ∷ ‵ (flft κ q) ∷ [])) (Post w))
+      (exits : (w : Val) (r : S .T .Denot) (zs : List Session) (h′ : Head) → Is (S .T) r (w ∷ []) → Says r zs h′ → length zs ≡ length ys → ent 𝓤 (⋆ 𝓤 H A (‵ (fres γ′ (headP .T .coded .code h′)) ∷ ‵ (flft κ′ q′) ∷ ‵ (finally RowRecord γ zs) ∷ ‵ (flft κ q) ∷ [])) (Post w))
       (s : Ty → Ty) (ty-S : Spelled s S) (ty-o : Spelled s outcomeP) (l₀ l₁ l₂ lq lo lp lr lh : ℕ) (args : Env 𝓤 H) (X : Item 𝓤) (n : ℕ) where
     abbrev rest : Env 𝓤 H
     rest = (spelled s requestP, lq) ∷ (spelled s outcomeP, lo) ∷ (atTy, lp) ∷ (rowOnTy, lr) ∷ (headOnTy, lh) ∷ []
@@ -142,7 +142,7 @@ module _ (S : Plain) (ψ : Outcome → S .T .Denot) {M : Type 1} (𝓤 : URA M) 
     En = (spelled s S, l₀) ∷ (rowTy, l₁) ∷ (headTy, l₂) ∷ args
 
     abbrev Held : List (Item 𝓤)
-    Held = ‵ (Lent headP κ′ γ′ b′ o′ h) ∷ ‵ (flft κ′ q′) ∷ ‵ (Mutable Record κ γ b o (length ys) ys) ∷ ‵ (flft κ q) ∷ X ∷ ‵ (froom headOnTy lh 0) ∷ ‵ (fdies headOnTy lh) ∷ ‵ (froom rowOnTy lr 0) ∷ ‵ (fdies rowOnTy lr) ∷ ‵ (froom atTy lp 0) ∷ ‵ (fdies atTy lp)
+    Held = ‵ (Lent headP κ′ γ′ b′ o′ h) ∷ ‵ (flft κ′ q′) ∷ ‵ (Mutable RowRecord κ γ b o (length ys) ys) ∷ ‵ (flft κ q) ∷ X ∷ ‵ (froom headOnTy lh 0) ∷ ‵ (fdies headOnTy lh) ∷ ‵ (froom rowOnTy lr 0) ∷ ‵ (fdies rowOnTy lr) ∷ ‵ (froom atTy lp 0) ∷ ‵ (fdies atTy lp)
         ∷ ‵ (froom (spelled s outcomeP) lo 0) ∷ ‵ (fdies (spelled s outcomeP) lo) ∷ ‵ (fat fullShare (spelled s requestP) lq 0 cv) ∷ ‵ (fdies (spelled s requestP) lq) ∷ ‵ (fat fullShare headTy l₂ 0 (vptr b′ o′)) ∷ ‵ (fdies headTy l₂) ∷ ‵ (fat fullShare rowTy l₁ 0 sv) ∷ ‵ (fdies rowTy l₁)
         ∷ ‵ (froom (spelled s S) l₀ 0) ∷ ‵ (fdies (spelled s S) l₀) ∷ []
 

@@ -47,7 +47,7 @@ use Rattle.step.specs.Requests.{requestOf}
 use Rattle.step.specs.Stepping.{tableOf, rowStep, rowAfter}
 use Rattle.step.proofs.TableStep.{saidOf}
 use Rattle.row.proofs.LentSlice.{slice, Mutable}
-use Rattle.row.proofs.RecordOfRow.{Record}
+use Rattle.row.proofs.RecordOfRow.{RowRecord}
 use Rattle.row.proofs.Callee.{callee-answers, token-back}
 use Rattle.row.proofs.Locals.{frees-stored}
 use Rattle.row.proofs.ByWalk.{meets-by-walk}
@@ -63,8 +63,8 @@ function τ₅ τ₆ σ σ′ k k′ = record {
   lifetimes = 3;
   outlives = [];
   params = 4;
-  locals = local (tyInt w32) valueLocal ∷ local (sliceTy (tyRef (named 0) mut (pointee (Record .written)))) valueLocal ∷ local (tyRef (named 1) mut (pointee (headP .T .written))) valueLocal ∷ local (tyInt w32) valueLocal ∷ local (sliceTy (tyRef (named 2) mut (tyInt w8))) valueLocal
-      ∷ local τ₅ valueLocal ∷ local τ₆ valueLocal ∷ local (tyInt w64) valueLocal ∷ local (tyRef erased mut (pointee (Record .written))) valueLocal ∷ local (sliceTy (tyRef erased mut (pointee (Record .written)))) valueLocal
+  locals = local (tyInt w32) valueLocal ∷ local (sliceTy (tyRef (named 0) mut (pointee (RowRecord .written)))) valueLocal ∷ local (tyRef (named 1) mut (pointee (headP .T .written))) valueLocal ∷ local (tyInt w32) valueLocal ∷ local (sliceTy (tyRef (named 2) mut (tyInt w8))) valueLocal
+      ∷ local τ₅ valueLocal ∷ local τ₆ valueLocal ∷ local (tyInt w64) valueLocal ∷ local (tyRef erased mut (pointee (RowRecord .written))) valueLocal ∷ local (sliceTy (tyRef erased mut (pointee (RowRecord .written)))) valueLocal
       ∷ local (tyRef erased mut (pointee (headP .T .written))) valueLocal ∷ local (tyRef erased mut (tyInt w8)) valueLocal ∷ local (sliceTy (tyRef erased mut (tyInt w8))) valueLocal ∷ [];
   body = seq (assign (place 7 []) (rvOpd (copy (place 4 (field 1 ∷ [])))))
       (seq (call k (copy (place 3 []) ∷ copy (place 7 []) ∷ []) (place 5 []))
@@ -85,10 +85,10 @@ abbrev pub h-ended : Ended
 h-ended = record { signature = record { lifetimes = 1; outlives = []; params = mutSlice 0 tt (λ _. u8) ∷ plain (λ _. outcomeP .T) ∷ []; result = plain (λ _. u32) }; kept = (yes, (yes, tt)) }
 
 abbrev pub ended : Ended
-ended = record { signature = record { lifetimes = 3; outlives = []; params = mutSlice 0 tt (λ _. Record) ∷ mutRef 1 tt (λ _. headP .T) ∷ plain (λ _. u32) ∷ mutSlice 2 tt (λ _. u8) ∷ []; result = plain (λ _. u32) }; kept = (yes, (yes, (yes, (yes, tt)))) }
+ended = record { signature = record { lifetimes = 3; outlives = []; params = mutSlice 0 tt (λ _. RowRecord) ∷ mutRef 1 tt (λ _. headP .T) ∷ plain (λ _. u32) ∷ mutSlice 2 tt (λ _. u8) ∷ []; result = plain (λ _. u32) }; kept = (yes, (yes, (yes, (yes, tt)))) }
 
 abbrev stayed : Stays (ended .signature .params) (ended .kept)
-stayed = (gave-slice (0 ∷ []) tt (plain (λ _. Record)), (gave-ref (1 ∷ []) tt (plain (λ _. headP .T)), (stay-none (λ _. u32) yes, (gave-slice (2 ∷ []) tt (plain (λ _. u8)), tt))))
+stayed = (gave-slice (0 ∷ []) tt (plain (λ _. RowRecord)), (gave-ref (1 ∷ []) tt (plain (λ _. headP .T)), (stay-none (λ _. u32) yes, (gave-slice (2 ∷ []) tt (plain (λ _. u8)), tt))))
 
 abbrev wrote : ℕ → List ℕ → Written
 wrote n ps = record { answer = n; buffer = ps }
@@ -142,7 +142,7 @@ module _ (act : List ℕ → Act) (φ : ℕ → ℕ → Request) (octets : Outco
     module _ (κ κ′ κ₂ : Lft) (q q′ q₂ : Share) (b o : ℕ) (γ : GName) (ys : List Session) (b′ o′ : ℕ) (γ′ : GName) (h : Head) (l : ℕ) (b₂ o₂ : ℕ) (γ₂ : GName) (bs : List ℕ) where
       -- the arguments, and their machine values
       abbrev a : Args (ended .signature) (κ, (κ′, (κ₂, tt)))
-      a = (slice Record γ b o ys, (reference headP γ′ b′ o′ h, (l, (slice u8 γ₂ b₂ o₂ bs, tt))))
+      a = (slice RowRecord γ b o ys, (reference headP γ′ b′ o′ h, (l, (slice u8 γ₂ b₂ o₂ bs, tt))))
 
       abbrev s : Val
       s = sliceVal (b, o) (length ys)
@@ -161,19 +161,19 @@ module _ (act : List ℕ → Act) (φ : ℕ → ℕ → Request) (octets : Outco
       to-g = ((tt, tt, tt, (l, (length bs, tt)), (vint w32 l ∷ [], (vint w64 (length bs) ∷ [], tt))), tt)
 
       abbrev to-ob : Request → Val → ObeyLent 𝓤 H A mem run .Ghost
-      to-ob c w = (((κ, (κ′, tt)), (q, (q′, tt)), tt, (slice Record γ b o ys, (reference headP γ′ b′ o′ h, (c, tt))), (s ∷ [], (vptr b′ o′ ∷ [], (w ∷ [], tt)))), tt)
+      to-ob c w = (((κ, (κ′, tt)), (q, (q′, tt)), tt, (slice RowRecord γ b o ys, (reference headP γ′ b′ o′ h, (c, tt))), (s ∷ [], (vptr b′ o′ ∷ [], (w ∷ [], tt)))), tt)
 
       abbrev to-h : Outcome → Val → Putter octets 𝓤 H A .Ghost
       to-h r w = (((κ₂, tt), (q₂, tt), tt, (slice u8 γ₂ b₂ o₂ bs, (r, tt)), (p ∷ [], (w ∷ [], tt))), tt)
 
-      module _ (room : Room Record (length ys)) (gl : l < 2 ^ 32) (p-room : Room u8 (length bs)) where
+      module _ (room : Room RowRecord (length ys)) (gl : l < 2 ^ 32) (p-room : Room u8 (length bs)) where
         -- what each callee asks
         goes : ent 𝓤 (emp 𝓤) (Maker φ 𝓤 H A .pre to-g)
         goes = qed W [] ∵ nothing ! $ owned ! usize (Is usize) (uint-makes 𝓤 H A W w64) (length bs) _ (refl, p-room .0) $ fjoin ! $ owned ! u32 (Is u32) (uint-makes 𝓤 H A W w32) l _ (refl, gl) $ fjoin ! $ nothing ! $ join ! $ frame ! $ done !
 
-        goes-ob : (c : Request) (w : Val) → Is (requestP .T) c (w ∷ []) → ent 𝓤 (⋆ 𝓤 H A ((‵ (flft κ q) ⊛ ‵ (flft κ′ q′) ⊛ ‵ ftrue) ∷ ‵ (Mutable Record κ γ b o (length ys) ys) ∷ ‵ (Lent headP κ′ γ′ b′ o′ h) ∷ [])) (ObeyLent 𝓤 H A mem run .pre (to-ob c w))
+        goes-ob : (c : Request) (w : Val) → Is (requestP .T) c (w ∷ []) → ent 𝓤 (⋆ 𝓤 H A ((‵ (flft κ q) ⊛ ‵ (flft κ′ q′) ⊛ ‵ ftrue) ∷ ‵ (Mutable RowRecord κ γ b o (length ys) ys) ∷ ‵ (Lent headP κ′ γ′ b′ o′ h) ∷ [])) (ObeyLent 𝓤 H A mem run .pre (to-ob c w))
         goes-ob c w c-is =
-            qed W ((‵ (flft κ q) ⊛ ‵ (flft κ′ q′) ⊛ ‵ ftrue) ∷ ‵ (Mutable Record κ γ b o (length ys) ys) ∷ ‵ (Lent headP κ′ γ′ b′ o′ h) ∷ []) ∵ nothing ! $ owned ! (requestP .T) (Is (requestP .T)) (requestP .makes 𝓤 H A W) c _ c-is $ fjoin ! $
+            qed W ((‵ (flft κ q) ⊛ ‵ (flft κ′ q′) ⊛ ‵ ftrue) ∷ ‵ (Mutable RowRecord κ γ b o (length ys) ys) ∷ ‵ (Lent headP κ′ γ′ b′ o′ h) ∷ []) ∵ nothing ! $ owned ! (requestP .T) (Is (requestP .T)) (requestP .makes 𝓤 H A W) c _ c-is $ fjoin ! $
             move ! (3 ∷ 0 ∷ []) $ fjoin ! $ move ! (2 ∷ 0 ∷ []) $ fjoin ! $ move ! (1 ∷ 0 ∷ []) $ join ! $ frame ! $ done !
 
         goes-h : (r : Outcome) (w : Val) → Is (outcomeP .T) r (w ∷ []) → ent 𝓤 (⋆ 𝓤 H A (‵ (flft κ₂ q₂) ∷ ‵ (Mutable u8 κ₂ γ₂ b₂ o₂ (length bs) bs) ∷ [])) (Putter octets 𝓤 H A .pre (to-h r w))
@@ -182,9 +182,9 @@ module _ (act : List ℕ → Act) (φ : ℕ → ℕ → Request) (octets : Outco
             move ! (2 ∷ 0 ∷ []) $ fjoin ! $ nothing ! $ move ! (2 ∷ 0 ∷ []) $ join ! $ join ! $ frame ! $ done !
 
         exits : (w : Val) (n : ℕ) (zs : List Session) (h′ : Head) (ps : List ℕ) → Is u32 n (w ∷ []) → left n zs h′ ps ≡ called (tableOf ys h) (On l (act bs)) → length zs ≡ length ys → length ps ≡ length bs
-            → ent 𝓤 (⋆ 𝓤 H A (‵ (finally u8 γ₂ ps) ∷ ‵ (flft κ₂ q₂) ∷ ‵ (fres γ′ (headP .T .coded .code h′)) ∷ ‵ (finally Record γ zs) ∷ ‵ (flft κ′ q′) ∷ ‵ (flft κ q) ∷ [])) (Post w)
+            → ent 𝓤 (⋆ 𝓤 H A (‵ (finally u8 γ₂ ps) ∷ ‵ (flft κ₂ q₂) ∷ ‵ (fres γ′ (headP .T .coded .code h′)) ∷ ‵ (finally RowRecord γ zs) ∷ ‵ (flft κ′ q′) ∷ ‵ (flft κ q) ∷ [])) (Post w)
         exits w n zs h′ ps is e len len₂ =
-            qed W (‵ (finally u8 γ₂ ps) ∷ ‵ (flft κ₂ q₂) ∷ ‵ (fres γ′ (headP .T .coded .code h′)) ∷ ‵ (finally Record γ zs) ∷ ‵ (flft κ′ q′) ∷ ‵ (flft κ q) ∷ []) ∵
+            qed W (‵ (finally u8 γ₂ ps) ∷ ‵ (flft κ₂ q₂) ∷ ‵ (fres γ′ (headP .T .coded .code h′)) ∷ ‵ (finally RowRecord γ zs) ∷ ‵ (flft κ′ q′) ∷ ‵ (flft κ q) ∷ []) ∵
             suffices ! _ (ends-at 𝓤 H A ended stayed (thin act 𝓤) W (((κ, (κ′, (κ₂, tt))), (q, (q′, (q₂, tt))), tt, a, at), tt) w n (zs, (h′, (tt, (ps, tt)))) (len, (tt, (tt, (len₂, tt))))) $ says ! e $
             nothing ! $ move ! (2 ∷ 0 ∷ []) $ join ! $ move ! (4 ∷ 0 ∷ []) $ join ! $ move ! (4 ∷ 0 ∷ []) $ join ! $ frame ! $
             nothing ! $ move ! (1 ∷ 0 ∷ []) $ fjoin ! $ owned ! u32 (Is u32) (uint-makes 𝓤 H A W w32) l _ (refl, gl) $ fjoin ! $ move ! (1 ∷ 0 ∷ []) $ fjoin ! $ move ! (1 ∷ 0 ∷ []) $ fjoin ! $ frame ! $
@@ -192,7 +192,7 @@ module _ (act : List ℕ → Act) (φ : ℕ → ℕ → Request) (octets : Outco
 
         walk : ent 𝓤 (onEntry 𝓤 H A (ended .signature) (κ, (κ′, (κ₂, tt))) (q, (q′, (q₂, tt))) a at) (WpFn 𝓤 H (𝓣 .C) (𝓣 .Λ) (function τ₅ τ₆ σ σ′ k k′) (s ∷ vptr b′ o′ ∷ vint w32 l ∷ p ∷ []) Post)
         walk =
-            qed W ((‵ (flft κ q) ⊛ ‵ (flft κ′ q′) ⊛ ‵ (flft κ₂ q₂) ⊛ ‵ ftrue) ∷ ‵ (owns (MutSlice (named 0) κ Record ∷ MutRef (named 1) κ′ (headP .T) ∷ u32 ∷ MutSlice (named 2) κ₂ u8 ∷ []) a at) ∷ []) ∵ enter ! (𝓣 .C) (𝓣 .Λ) (function τ₅ τ₆ σ σ′ k k′) (s ∷ vptr b′ o′ ∷ vint w32 l ∷ p ∷ []) _ $
+            qed W ((‵ (flft κ q) ⊛ ‵ (flft κ′ q′) ⊛ ‵ (flft κ₂ q₂) ⊛ ‵ ftrue) ∷ ‵ (owns (MutSlice (named 0) κ RowRecord ∷ MutRef (named 1) κ′ (headP .T) ∷ u32 ∷ MutSlice (named 2) κ₂ u8 ∷ []) a at) ∷ []) ∵ enter ! (𝓣 .C) (𝓣 .Λ) (function τ₅ τ₆ σ σ′ k k′) (s ∷ vptr b′ o′ ∷ vint w32 l ∷ p ∷ []) _ $
             alloc1 ! (λ l₀. alloc1 ! (λ l₁. alloc1 ! (λ l₂. alloc1 ! (λ l₃. alloc1 ! (λ l₄. alloc1 ! (λ l₅. alloc1 ! (λ l₆. alloc1 ! (λ l₇. alloc1 ! (λ l₈. alloc1 ! (λ l₉. alloc1 ! (λ l₁₀. alloc1 ! (λ l₁₁. alloc1 ! (λ l₁₂. alloc0 ! $ params1 ! $
             pass1 ! (init ! 22 refl (tt, (tt, (record { fits = room .0 }, tt)))) $ pass1 ! (init ! 20 refl (tt, tt)) $ pass1 ! (init ! 18 refl (tt, record { fits = gl })) $ pass1 ! (init ! 16 refl (tt, (tt, (record { fits = p-room .0 }, tt)))) $ pass0 ! $
             -- of what is owned at entry: the borrows and the tokens
@@ -226,8 +226,8 @@ module _ (act : List ℕ → Act) (φ : ℕ → ℕ → Request) (octets : Outco
 
     pub meets : Meets 𝓤 H A (ended .signature) (WpFn 𝓤 H (𝓣 .C) (𝓣 .Λ) (function τ₅ τ₆ σ σ′ k k′)) (closing 𝓤 H A ended (thin act 𝓤))
     meets = meets-by-walk 𝓤 H A W ended stayed (thin act 𝓤) (function τ₅ τ₆ σ σ′ k k′) 𝓣
-        (goes-gave-slice 𝓤 H A W 3 0 tt (plain (λ _. Record)), (goes-gave-ref 𝓤 H A W 3 1 tt (plain (λ _. headP .T)), (goes-none 𝓤 H A W 3 (λ _. u32) yes (λ κs x f. refl), (goes-gave-slice 𝓤 H A W 3 2 tt (plain (λ _. u8)), tt))))
-        (λ κs. (slice-vals, (ptr-vals, (uint-vals w32, (slice-vals, tt))))) (λ κs. (mut-slice-tells (named 0) (κs .0) Record, (mut-tells (named 1) (κs .1 .0) (headP .T), (uint-tells w32, (mut-slice-tells (named 2) (κs .1 .1 .0) u8, tt)))))
+        (goes-gave-slice 𝓤 H A W 3 0 tt (plain (λ _. RowRecord)), (goes-gave-ref 𝓤 H A W 3 1 tt (plain (λ _. headP .T)), (goes-none 𝓤 H A W 3 (λ _. u32) yes (λ κs x f. refl), (goes-gave-slice 𝓤 H A W 3 2 tt (plain (λ _. u8)), tt))))
+        (λ κs. (slice-vals, (ptr-vals, (uint-vals w32, (slice-vals, tt))))) (λ κs. (mut-slice-tells (named 0) (κs .0) RowRecord, (mut-tells (named 1) (κs .1 .0) (headP .T), (uint-tells w32, (mut-slice-tells (named 2) (κs .1 .1 .0) u8, tt)))))
         (λ κs qs bounds a g are.
         walk (κs .0) (κs .1 .0) (κs .1 .1 .0) (qs .0) (qs .1 .0) (qs .1 .1 .0) (a .0 .ptr .0) (a .0 .ptr .1) (a .0 .name) (a .0 .now) (a .1 .0 .ptr .0) (a .1 .0 .ptr .1) (a .1 .0 .name) (a .1 .0 .now) (a .1 .1 .0)
         (a .1 .1 .1 .0 .ptr .0) (a .1 .1 .1 .0 .ptr .1) (a .1 .1 .1 .0 .name) (a .1 .1 .1 .0 .now) (are .0 .0 .1) (are .1 .1 .0 .1) (are .1 .1 .1 .0 .0 .1))

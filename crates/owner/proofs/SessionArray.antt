@@ -35,7 +35,7 @@ use Rattle.session.specs.declared.Session.{Session}
 use Rattle.session.proofs.Session as T
 use Rattle.session.proofs.Session.Laws as T′
 use Rattle.row.proofs.LentSlice.{Mutable}
-use Rattle.row.proofs.RecordOfRow.{Record, value, values}
+use Rattle.row.proofs.RecordOfRow.{RowRecord, value, values}
 use Rattle.row.proofs.Plains.{sessionP}
 
 abbrev pub rows-val : List Session → Val
@@ -45,53 +45,53 @@ rows-val ys = arrayVal (map value ys)
 abbrev F : RattleType
 F = T.the-field .row
 
-each-out : (ys : List Session) (us : List Val) → shadow (each (F .Denot) (F .own) (map (T.the-field .into) ys) us) → shadow (each Session (Record .own) ys us)
+each-out : (ys : List Session) (us : List Val) → shadow (each (F .Denot) (F .own) (map (T.the-field .into) ys) us) → shadow (each Session (RowRecord .own) ys us)
 each-out [] [] p = p
 each-out [] (u ∷ us) p = p
 each-out (y ∷ ys) [] p = p
 each-out (y ∷ ys) (u ∷ us) p = (p .0, each-out ys us (p .1))
 
-each-in : (ys : List Session) (us : List Val) → shadow (each Session (Record .own) ys us) → shadow (each (F .Denot) (F .own) (map (T.the-field .into) ys) us)
+each-in : (ys : List Session) (us : List Val) → shadow (each Session (RowRecord .own) ys us) → shadow (each (F .Denot) (F .own) (map (T.the-field .into) ys) us)
 each-in [] [] p = p
 each-in [] (u ∷ us) p = p
 each-in (y ∷ ys) [] p = p
 each-in (y ∷ ys) (u ∷ us) p = (p .0, each-in ys us (p .1))
 
 -- the relation at the one value that it can hold at
-pub rows-are : (n : ℕ) (ys : List Session) (vs : List Val) → Is (Array F n) (map (T.the-field .into) ys) vs → Is (Array Record n) ys (rows-val ys ∷ [])
-rows-are n ys vs p = subst (Is (Array Record n) ys) (array-tells Record values (sessionP .tells) n ys vs here) here
+pub rows-are : (n : ℕ) (ys : List Session) (vs : List Val) → Is (Array F n) (map (T.the-field .into) ys) vs → Is (Array RowRecord n) ys (rows-val ys ∷ [])
+rows-are n ys vs p = subst (Is (Array RowRecord n) ys) (array-tells RowRecord values (sessionP .tells) n ys vs here) here
   where
-    here : Is (Array Record n) ys vs
+    here : Is (Array RowRecord n) ys vs
     here = (p .0, ((p .1 .0 .0, sym (length-map ys (T.the-field .into)) ∙ p .1 .0 .1), each-out ys (p .0) (p .1 .1)))
 
-pub are-rows : (n : ℕ) (ys : List Session) → Is (Array Record n) ys (rows-val ys ∷ []) → Is (Array F n) (map (T.the-field .into) ys) (rows-val ys ∷ [])
+pub are-rows : (n : ℕ) (ys : List Session) → Is (Array RowRecord n) ys (rows-val ys ∷ []) → Is (Array F n) (map (T.the-field .into) ys) (rows-val ys ∷ [])
 are-rows n ys p = (p .0, ((p .1 .0 .0, length-map ys (T.the-field .into) ∙ p .1 .0 .1), each-in ys (p .0) (p .1 .1)))
 
-pub rows-typed : {M : Type 1} (𝓤 : URA M) (H : Heap 𝓤) (A : Atoms 𝓤) → Given 𝓤 H A → (n : ℕ) (ys : List Session) → Is (Array Record n) ys (rows-val ys ∷ []) → Holds (hasTy (tyArray T′.mir n) (rows-val ys)) × WT (rows-val ys)
-rows-typed 𝓤 H A W n ys is = array-lawful 𝓤 H A W Record (LL.lawful T.the-type T′.the-laws 𝓤 H A W) n .typed ys (rows-val ys ∷ []) is .0
+pub rows-typed : {M : Type 1} (𝓤 : URA M) (H : Heap 𝓤) (A : Atoms 𝓤) → Given 𝓤 H A → (n : ℕ) (ys : List Session) → Is (Array RowRecord n) ys (rows-val ys ∷ []) → Holds (hasTy (tyArray T′.mir n) (rows-val ys)) × WT (rows-val ys)
+rows-typed 𝓤 H A W n ys is = array-lawful 𝓤 H A W RowRecord (LL.lawful T.the-type T′.the-laws 𝓤 H A W) n .typed ys (rows-val ys ∷ []) is .0
 
 module _ {M : Type 1} {𝓤 : URA M} {H : Heap 𝓤} {A : Atoms 𝓤} {K : Type 0} {W : Given 𝓤 H A} {Γ : List (Item 𝓤)} {G : Goal 𝓤 H} where
-  pub lent-out : K → Soaks G → (κ : Lft) (n : ℕ) (b : ℕ) (ys : List Session) → Is (Array Record n) ys (rows-val ys ∷ []) → Room Record (length ys)
-      → ((γ : GName) → Seq K W (‵ (Mutable Record κ γ b 0 (length ys) ys) ∷ ‵ (flent κ (Held Record (length ys) b 0 γ)) ∷ Γ) G)
+  pub lent-out : K → Soaks G → (κ : Lft) (n : ℕ) (b : ℕ) (ys : List Session) → Is (Array RowRecord n) ys (rows-val ys ∷ []) → Room RowRecord (length ys)
+      → ((γ : GName) → Seq K W (‵ (Mutable RowRecord κ γ b 0 (length ys) ys) ∷ ‵ (flent κ (Held RowRecord (length ys) b 0 γ)) ∷ Γ) G)
       → Seq K W (‵ (fat fullShare (tyArray T′.mir n) b 0 (rows-val ys)) ∷ Γ) G
   unfolding partOf
   lent-out t z κ n b ys is room k =
-      use1 W (‵ (cellAt fullShare (Array Record n .mir) (rows-val ys ∷ []) b 0)) (W .laws .at-raw fullShare (tyArray T′.mir n) b 0 (rows-val ys)) $
-      owned t (Array Record n) (Is (Array Record n)) (array-makes 𝓤 H A W Record (sessionP .makes 𝓤 H A W) n) ys (rows-val ys ∷ []) is $ move t (1 ∷ 0 ∷ []) $ fjoin t $
-      fpack t (List Val) (λ vs. fsep (cellAt fullShare (Array Record n .mir) vs b 0) (Array Record n .own ys vs)) (rows-val ys ∷ []) $
-      use1 W (‵ (arr-parts (shares Record) n .part fullShare ys b 0)) (array-apart 𝓤 H A W Record fullShare tt n ys b 0) $ fsplit t $ feqL t (λ _.
-      use1 W (‵ (cells (mem Record) ys b 0)) (whole-in 𝓤 H A W Record ys b 0) $
-      use1 W (later (some (λ (γ : GName). ‵ (Mutable Record κ γ b 0 (length ys) ys) ⊛ ‵ (flent κ (Held Record (length ys) b 0 γ))))) (lends-slice 𝓤 H A W Record (named 0) κ ys b 0 room) $ await t z $ pick t (λ γ. split t $ k γ))
+      use1 W (‵ (cellAt fullShare (Array RowRecord n .mir) (rows-val ys ∷ []) b 0)) (W .laws .at-raw fullShare (tyArray T′.mir n) b 0 (rows-val ys)) $
+      owned t (Array RowRecord n) (Is (Array RowRecord n)) (array-makes 𝓤 H A W RowRecord (sessionP .makes 𝓤 H A W) n) ys (rows-val ys ∷ []) is $ move t (1 ∷ 0 ∷ []) $ fjoin t $
+      fpack t (List Val) (λ vs. fsep (cellAt fullShare (Array RowRecord n .mir) vs b 0) (Array RowRecord n .own ys vs)) (rows-val ys ∷ []) $
+      use1 W (‵ (arr-parts (shares RowRecord) n .part fullShare ys b 0)) (array-apart 𝓤 H A W RowRecord fullShare tt n ys b 0) $ fsplit t $ feqL t (λ _.
+      use1 W (‵ (cells (mem RowRecord) ys b 0)) (whole-in 𝓤 H A W RowRecord ys b 0) $
+      use1 W (later (some (λ (γ : GName). ‵ (Mutable RowRecord κ γ b 0 (length ys) ys) ⊛ ‵ (flent κ (Held RowRecord (length ys) b 0 γ))))) (lends-slice 𝓤 H A W RowRecord (named 0) κ ys b 0 room) $ await t z $ pick t (λ γ. split t $ k γ))
 
   pub got-back : K → Soaks G → (κ : Lft) (n : ℕ) (b : ℕ) (γ : GName) (zs : List Session)
-      → (Is (Array Record n) zs (rows-val zs ∷ []) → Seq K W (‵ (fat fullShare (tyArray T′.mir n) b 0 (rows-val zs)) ∷ Γ) G)
-      → Seq K W (‵ (fdead κ) ∷ ‵ (flent κ (Held Record n b 0 γ)) ∷ ‵ (finally Record γ zs) ∷ Γ) G
+      → (Is (Array RowRecord n) zs (rows-val zs ∷ []) → Seq K W (‵ (fat fullShare (tyArray T′.mir n) b 0 (rows-val zs)) ∷ Γ) G)
+      → Seq K W (‵ (fdead κ) ∷ ‵ (flent κ (Held RowRecord n b 0 γ)) ∷ ‵ (finally RowRecord γ zs) ∷ Γ) G
   unfolding partOf
   got-back t z κ n b γ zs k =
-      use3 W (later (‵ (Arr (mem Record) n .lies zs b 0))) (slice-back 𝓤 H A W Record κ γ zs n b 0) $ await t z $ fsplit t $ feqL t (λ e.
-      use1 W (‵ (row Record fullShare zs b 0)) (whole-out 𝓤 H A W Record zs b 0) $ feqI t ℕ (length zs) n e $ fjoin t $
-      use1 W (‵ (partAt (Array Record n) fullShare zs b 0)) (array-whole 𝓤 H A W Record fullShare n zs b 0) $ fpick t (λ vs. fsplit t $ move t (1 ∷ []) $
-      facts t (Array Record n) (Is (Array Record n)) (shows 𝓤 H A (Array Record n)) zs vs (λ is.
-      rewrite t 0 (λ (us : List Val). ‵ (cellAt fullShare (Array Record n .mir) us b 0)) (array-tells Record values (sessionP .tells) n zs vs is) refl $
+      use3 W (later (‵ (Arr (mem RowRecord) n .lies zs b 0))) (slice-back 𝓤 H A W RowRecord κ γ zs n b 0) $ await t z $ fsplit t $ feqL t (λ e.
+      use1 W (‵ (row RowRecord fullShare zs b 0)) (whole-out 𝓤 H A W RowRecord zs b 0) $ feqI t ℕ (length zs) n e $ fjoin t $
+      use1 W (‵ (partAt (Array RowRecord n) fullShare zs b 0)) (array-whole 𝓤 H A W RowRecord fullShare n zs b 0) $ fpick t (λ vs. fsplit t $ move t (1 ∷ []) $
+      facts t (Array RowRecord n) (Is (Array RowRecord n)) (shows 𝓤 H A (Array RowRecord n)) zs vs (λ is.
+      rewrite t 0 (λ (us : List Val). ‵ (cellAt fullShare (Array RowRecord n .mir) us b 0)) (array-tells RowRecord values (sessionP .tells) n zs vs is) refl $
       use1 W (‵ (fat fullShare (tyArray T′.mir n) b 0 (rows-val zs))) (W .laws .raw-at fullShare (tyArray T′.mir n) b 0 (rows-val zs)) $
-      k (subst (Is (Array Record n) zs) (array-tells Record values (sessionP .tells) n zs vs is) is))))
+      k (subst (Is (Array RowRecord n) zs) (array-tells RowRecord values (sessionP .tells) n zs vs is) is))))

@@ -45,7 +45,7 @@ use denote.Exit.{yes}
 use Rattle.session.specs.declared.Session.{Session}
 use Rattle.session.proofs.Session.Laws as Session″
 use Rattle.row.proofs.LentSlice.{slice, Mutable}
-use Rattle.row.proofs.RecordOfRow.{Record}
+use Rattle.row.proofs.RecordOfRow.{RowRecord}
 use Rattle.row.proofs.Callee.{callee-answers}
 use Rattle.row.proofs.Locals.{frees-stored}
 use Rattle.row.proofs.ByWalk.{meets-by-walk}
@@ -83,7 +83,7 @@ table-of zs e = record { row = zs; fed = e }
 abbrev table-val : List Session → Val → Val
 table-val zs w = vstruct (vcons (rows-val zs) (vcons w vnil))
 
-table-is : (zs : List Session) (e : Fed) (w : Val) → Is (Array Record 64) zs (rows-val zs ∷ []) → Is (fedP .T) e (w ∷ []) → Is (feedingP .T) (table-of zs e) (table-val zs w ∷ [])
+table-is : (zs : List Session) (e : Fed) (w : Val) → Is (Array RowRecord 64) zs (rows-val zs ∷ []) → Is (fedP .T) e (w ∷ []) → Is (feedingP .T) (table-of zs e) (table-val zs w ∷ [])
 table-is zs e w is was = ((rows-val zs ∷ [], (w ∷ [], tt)), (refl, (are-rows 64 zs is, (was, tt))))
 
 abbrev Says : List Session → Fed → List ℕ → List ℕ → List Session → Fed → List ℕ → Type 0
@@ -125,11 +125,11 @@ module _ {M : Type 1} (𝓤 : URA M) (H : Heap 𝓤) (A : Atoms 𝓤) (W : Given
 
   -- the call of `feed_row`: the array at l, lent for the lifetime ν under the name γ
   abbrev to-g : ℕ → ℕ → GName → FeedRow 𝓤 H A mem run .Ghost
-  to-g ν l γ = (((ν ∷ [], (κ₁, (κ₂, tt))), (fullShare, (q₁, (q₂, tt))), tt, (slice Record γ l 0 ys, (e, (m, (slice u8 γ₂ b₂ o₂ os, tt)))), (sliceVal (l, 0) 64 ∷ [], (ev ∷ [], (m-val ∷ [], (o-val ∷ [], tt))))), tt)
+  to-g ν l γ = (((ν ∷ [], (κ₁, (κ₂, tt))), (fullShare, (q₁, (q₂, tt))), tt, (slice RowRecord γ l 0 ys, (e, (m, (slice u8 γ₂ b₂ o₂ os, tt)))), (sliceVal (l, 0) 64 ∷ [], (ev ∷ [], (m-val ∷ [], (o-val ∷ [], tt))))), tt)
 
   module _ (d-is : Is (feedingP .T) (table-of ys e) (dv ∷ [])) (m-room : Room u8 (length (m .now))) (o-room : Room u8 (length os)) where
     -- what whoever holds the table knows of its fields
-    rows-is : Is (Array Record 64) ys (rows-val ys ∷ [])
+    rows-is : Is (Array RowRecord 64) ys (rows-val ys ∷ [])
     rows-is = rows-are 64 ys _ (LL.owed Feeding′.the-type Feeding″.the-laws (table-of ys e) _ d-is .0)
 
     e-is : Is (fedP .T) e (ev ∷ [])
@@ -138,12 +138,12 @@ module _ {M : Type 1} (𝓤 : URA M) (H : Heap 𝓤) (A : Atoms 𝓤) (W : Given
     of-64 : length ys ≡ 64
     of-64 = rows-is .1 .0 .1
 
-    room : Room Record (length ys)
+    room : Room RowRecord (length ys)
     room = (omega (arith, of-64), omega (arith, of-64))
 
-    goes : (ν l : ℕ) (γ : GName) → ent 𝓤 (⋆ 𝓤 H A ((‵ (flft (ν ∷ []) fullShare) ⊛ Alive) ∷ ‵ (Mutable Record (ν ∷ []) γ l 0 64 ys) ∷ (‵ In ⊛ ‵ Out) ∷ [])) (FeedRow 𝓤 H A mem run .pre (to-g ν l γ))
+    goes : (ν l : ℕ) (γ : GName) → ent 𝓤 (⋆ 𝓤 H A ((‵ (flft (ν ∷ []) fullShare) ⊛ Alive) ∷ ‵ (Mutable RowRecord (ν ∷ []) γ l 0 64 ys) ∷ (‵ In ⊛ ‵ Out) ∷ [])) (FeedRow 𝓤 H A mem run .pre (to-g ν l γ))
     goes ν l γ =
-        qed W ((‵ (flft (ν ∷ []) fullShare) ⊛ Alive) ∷ ‵ (Mutable Record (ν ∷ []) γ l 0 64 ys) ∷ (‵ In ⊛ ‵ Out) ∷ []) ∵ move ! (2 ∷ []) $ split ! $ nothing ! $ move ! (2 ∷ 0 ∷ []) $ fjoin ! $ move ! (1 ∷ 0 ∷ []) $ fjoin ! $
+        qed W ((‵ (flft (ν ∷ []) fullShare) ⊛ Alive) ∷ ‵ (Mutable RowRecord (ν ∷ []) γ l 0 64 ys) ∷ (‵ In ⊛ ‵ Out) ∷ []) ∵ move ! (2 ∷ []) $ split ! $ nothing ! $ move ! (2 ∷ 0 ∷ []) $ fjoin ! $ move ! (1 ∷ 0 ∷ []) $ fjoin ! $
         owned ! (fedP .T) (Is (fedP .T)) (fedP .makes 𝓤 H A W) e _ e-is $ fjoin ! $ move ! (2 ∷ 0 ∷ []) $ fjoin ! $ move ! (1 ∷ 0 ∷ []) $ join ! $ frame ! $ done !
 
     exits : (w : Val) (r : Feeding) (ps : List ℕ) → Is (feedingP .T) r (w ∷ []) → Says ys e (m .now) os (r .row) (r .fed) ps → length ps ≡ length os → ent 𝓤 (⋆ 𝓤 H A (‵ (finally u8 γ₂ ps) ∷ Alive ∷ ‵ In ∷ [])) (Post w)
@@ -156,7 +156,7 @@ module _ {M : Type 1} (𝓤 : URA M) (H : Heap 𝓤) (A : Atoms 𝓤) (W : Given
     -- The body. The types of the locals are any types or structs, of which only what is said here is known: spelled out they are so long that antt's comparisons stop at the step limit.
     module _ (C : Calls 𝓤 H) (Λ : Loops 𝓤 H) (fm : FmC 𝓤 H (W .laws) C) (known : Triple 𝓤 (C #feed·feed-row) (FeedRow 𝓤 H A mem run)) (l₀ l₁ l₂ l₃ l₄ l₅ l₆ l₇ l₈ l₉ l₁₀ : ℕ)
         (τ₀ τ₄ τ₅ ρ σ : Ty) (ν₁ : Sym) (τs₁ : Tys) (d₁ : ℕ) (is₄ : τ₄ ≡ tyArray Session″.mir 64) (f₀ : fieldAt zero τs₁ 0 ≡ some (τ₄, 0)) (f₁ : fieldAt zero τs₁ 1 ≡ some (τ₅, d₁))
-        (ty₀ : (x : Feeding) (w : Val) → Is (feedingP .T) x (w ∷ []) → Holds (hasTy τ₀ w) × WT w) (ty₄ : (x : List Session) → Is (Array Record 64) x (rows-val x ∷ []) → Holds (hasTy τ₄ (rows-val x)) × WT (rows-val x)) (ty₅ : (x : Fed) (w : Val) → Is (fedP .T) x (w ∷ []) → Holds (hasTy τ₅ w) × WT w) where
+        (ty₀ : (x : Feeding) (w : Val) → Is (feedingP .T) x (w ∷ []) → Holds (hasTy τ₀ w) × WT w) (ty₄ : (x : List Session) → Is (Array RowRecord 64) x (rows-val x ∷ []) → Holds (hasTy τ₄ (rows-val x)) × WT (rows-val x)) (ty₅ : (x : Fed) (w : Val) → Is (fedP .T) x (w ∷ []) → Holds (hasTy τ₅ w) × WT w) where
       -- the types of the others
       abbrev τ₁ : Ty
       τ₁ = tyStruct ν₁ τs₁
@@ -198,7 +198,7 @@ module _ {M : Type 1} (𝓤 : URA M) (H : Heap 𝓤) (A : Atoms 𝓤) (W : Given
           assigns ! (agg ! (and-then ! (load ! (from ! (stop !)) (look ! 8 refl)) (and-then ! (load ! (from ! (fld ! refl (stop !))) (look-in ! 18 (sub ! 1 refl (whole !)))) (no-more !)))) (from ! (stop !)) (init ! 6 refl (tt, (tt, (record { fits = o-room .0 }, tt)))) $
           -- the array is lent for a lifetime ν of the call
           lft-new ! tt (λ ν. move ! (17 ∷ []) $ rewrite ! 0 (λ (τ : Ty). ‵ (fat fullShare τ l₄ 0 (rows-val ys))) is₄ refl $ lent-out ! tt (ν ∷ []) 64 l₄ ys rows-is room (λ γ.
-          rewrite ! 0 (λ (n : ℕ). ‵ (Mutable Record (ν ∷ []) γ l₄ 0 n ys)) of-64 refl $ rewrite ! 1 (λ (n : ℕ). ‵ (flent (ν ∷ []) (Held Record n l₄ 0 γ))) of-64 refl $
+          rewrite ! 0 (λ (n : ℕ). ‵ (Mutable RowRecord (ν ∷ []) γ l₄ 0 n ys)) of-64 refl $ rewrite ! 1 (λ (n : ℕ). ‵ (flent (ν ∷ []) (Held RowRecord n l₄ 0 γ))) of-64 refl $
           -- [the row; the lender's part; ν's token; the tokens; the output; the input; the input; _10; …]
           move ! (5 ∷ 4 ∷ []) $ join ! $ move ! (3 ∷ 4 ∷ []) $ join ! $ move ! (0 ∷ 2 ∷ 1 ∷ []) $ use3 W (raw (FeedRow 𝓤 H A mem run .pre (to-g ν l₄ γ))) (goes ν l₄ γ) $
           -- [what `feed_row` asks; the lender's part; the input; _10; …; that _4 dies; …; room for _0; …]
@@ -223,7 +223,7 @@ module _ {M : Type 1} (𝓤 : URA M) (H : Heap 𝓤) (A : Atoms 𝓤) (W : Given
         pass1 ! (init ! 18 refl (feedingP .typed 𝓤 H A W (table-of ys e) _ d-is)) $ pass1 ! (init ! 16 refl (tt, (tt, (record { fits = m-room .0 }, tt)))) $ pass1 ! (init ! 14 refl (tt, (tt, (record { fits = o-room .0 }, tt)))) $ pass0 ! $
         -- of what is owned at entry: the output, the input twice, and the tokens
         move ! (23 ∷ []) $ fsplit ! $ drop ! $ fsplit ! $ use1 W (‵ In ⊛ ‵ In) (shr-slice-copy 𝓤 H A W (named 0) κ₁ u8 .twice m (m-val ∷ [])) $ split ! $ move ! (2 ∷ []) $ fsplit ! $ move ! (1 ∷ []) $ drop ! $ move ! (25 ∷ []) $
-        by ! (body C Λ fm known l₀ l₁ l₂ l₃ l₄ l₅ l₆ l₇ l₈ l₉ l₁₀ (spell pieces.table (pointee (feedingP .T .written))) (tyArray (spell pieces.table (pointee (Record .written))) 64) (spell pieces.table (pointee (fedP .T .written))) (tyArray (pointee (Record .written)) 64) (pointee (Record .written))
+        by ! (body C Λ fm known l₀ l₁ l₂ l₃ l₄ l₅ l₆ l₇ l₈ l₉ l₁₀ (spell pieces.table (pointee (feedingP .T .written))) (tyArray (spell pieces.table (pointee (RowRecord .written))) 64) (spell pieces.table (pointee (fedP .T .written))) (tyArray (pointee (RowRecord .written)) 64) (pointee (RowRecord .written))
         (name-of (spell pieces.table (pointee (feedingP .T .written)))) (fields-of (spell pieces.table (pointee (feedingP .T .written)))) 11264 refl refl refl (feedingP .typed 𝓤 H A W) (rows-typed 𝓤 H A W 64) (fedP .typed 𝓤 H A W)))))))))))))
 
 pub feed-spec : {M : Type 1} → stated.statement M

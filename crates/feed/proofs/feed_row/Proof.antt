@@ -52,7 +52,7 @@ use Rattle.step.specs.Stepping.{rowStep, rowAfter}
 use Rattle.capture.specs.Records.{nextIn}
 use Rattle.row.proofs.LentSlice.{slice, Mutable}
 use Rattle.row.proofs.LentOn.{lent-mutable, mutable-back}
-use Rattle.row.proofs.RecordOfRow.{Record}
+use Rattle.row.proofs.RecordOfRow.{RowRecord}
 use Rattle.row.proofs.Callee.{callee-answers, token-back}
 use Rattle.row.proofs.Branches.{turns-while}
 use Rattle.row.proofs.Locals.{frees-stored, frees-unused}
@@ -86,7 +86,7 @@ use Rattle.feed.proofs.feed_row.Code as code
 use Rattle.feed.proofs.feed_row.Code.Mir as pieces
 
 abbrev stayed : Stays (f.ended .signature .params) (f.ended .kept)
-stayed = (stay-slice (0 ∷ []) tt (plain (λ _. Record)), (stay-none (λ _. fedP .T) yes, (stay-none-slice (1 ∷ []) tt (plain (λ _. u8)) yes, (stay-slice (2 ∷ []) tt (plain (λ _. u8)), tt))))
+stayed = (stay-slice (0 ∷ []) tt (plain (λ _. RowRecord)), (stay-none (λ _. fedP .T) yes, (stay-none-slice (1 ∷ []) tt (plain (λ _. u8)) yes, (stay-slice (2 ∷ []) tt (plain (λ _. u8)), tt))))
 
 module _ {M : Type 1} (𝓤 : URA M) (H : Heap 𝓤) (A : Atoms 𝓤) (mem : Memory → SProp 𝓤) (run : Routine → Fun 𝓤) where
   -- the contracts that the proof cites
@@ -173,7 +173,7 @@ module _ (input : List ℕ) (ys : List Session) (z : Fed) (os : List ℕ) where
 module _ {M : Type 1} (𝓤 : URA M) (H : Heap 𝓤) (A : Atoms 𝓤) (W : Given 𝓤 H A) (mem : Memory → SProp 𝓤) (run : Routine → Fun 𝓤) (κ κ₁ κ₂ : Lft) (q q₁ q₂ : Share) (b o : ℕ) (γ : GName) (ys : List Session) (z : Fed) (m : RefT (List ℕ)) (b₂ o₂ : ℕ) (γ₂ : GName) (os : List ℕ) where
   -- the arguments, and their machine values
   abbrev a : Args f.signature (κ, (κ₁, (κ₂, tt)))
-  a = (slice Record γ b o ys, (z, (m, (slice u8 γ₂ b₂ o₂ os, tt))))
+  a = (slice RowRecord γ b o ys, (z, (m, (slice u8 γ₂ b₂ o₂ os, tt))))
 
   abbrev s : Val
   s = sliceVal (b, o) (length ys)
@@ -202,12 +202,12 @@ module _ {M : Type 1} (𝓤 : URA M) (H : Heap 𝓤) (A : Atoms 𝓤) (W : Given
   to-rq i = (((κ₁, tt), (q₁, tt), tt, (m, (i, tt)), (m-val ∷ [], (vint w64 i ∷ [], tt))), tt)
 
   abbrev to-ob : ℕ → GName → List Session → Head → Request → Val → ObeyC 𝓤 H A mem run .Ghost
-  to-ob ν δ zs k c cv = (((ν ∷ [], tt), (fullShare, tt), tt, (slice Record δ b o zs, (k, (c, tt))), (sliceVal (b, o) (length zs) ∷ [], (headP .v k ∷ [], (cv ∷ [], tt)))), tt)
+  to-ob ν δ zs k c cv = (((ν ∷ [], tt), (fullShare, tt), tt, (slice RowRecord δ b o zs, (k, (c, tt))), (sliceVal (b, o) (length zs) ∷ [], (headP .v k ∷ [], (cv ∷ [], tt)))), tt)
 
   abbrev to-an : ℕ → GName → List ℕ → Fed → Request → Val → Outcome → Val → LineC 𝓤 H A mem run .Ghost
   to-an ν δ ps g c cv r rv = (((ν ∷ [], (κ₁, tt)), (fullShare, (q₁, tt)), tt, (slice u8 δ b₂ o₂ ps, (g, (m, (c, (r, tt))))), (sliceVal (b₂, o₂) (length ps) ∷ [], (fedP .v g ∷ [], (m-val ∷ [], (cv ∷ [], (rv ∷ [], tt)))))), tt)
 
-  module _ (room : Room Record (length ys)) (z-is : Is (fedP .T) z (fedP .v z ∷ [])) (m-room : Room u8 (length (m .now))) (o-room : Room u8 (length os)) where
+  module _ (room : Room RowRecord (length ys)) (z-is : Is (fedP .T) z (fedP .v z ∷ [])) (m-room : Room u8 (length (m .now))) (o-room : Room u8 (length os)) where
     -- what each callee asks
     goes-mo : (g : Fed) → Is (fedP .T) g (fedP .v g ∷ []) → ent 𝓤 (⋆ 𝓤 H A (‵ (flft κ₁ q₁) ∷ ‵ Msg ∷ [])) (MoreC 𝓤 H A mem run .pre (to-mo g))
     goes-mo g is =
@@ -218,9 +218,9 @@ module _ {M : Type 1} (𝓤 : URA M) (H : Heap 𝓤) (A : Atoms 𝓤) (W : Given
     goes-rq i fits =
         qed W (‵ (flft κ₁ q₁) ∷ ‵ Msg ∷ []) ∵ nothing ! $ owned ! usize (Is usize) (uint-makes 𝓤 H A W w64) i _ (refl, fits) $ fjoin ! $ move ! (2 ∷ 0 ∷ []) $ fjoin ! $ nothing ! $ move ! (2 ∷ 0 ∷ []) $ join ! $ join ! $ frame ! $ done !
 
-    goes-ob : (ν : ℕ) (δ : GName) (zs : List Session) (k : Head) (c : Request) (cv : Val) → Is (headP .T) k (headP .v k ∷ []) → Is (requestP .T) c (cv ∷ []) → ent 𝓤 (⋆ 𝓤 H A (‵ (flft (ν ∷ []) fullShare) ∷ ‵ (Mutable Record (ν ∷ []) δ b o (length zs) zs) ∷ [])) (ObeyC 𝓤 H A mem run .pre (to-ob ν δ zs k c cv))
+    goes-ob : (ν : ℕ) (δ : GName) (zs : List Session) (k : Head) (c : Request) (cv : Val) → Is (headP .T) k (headP .v k ∷ []) → Is (requestP .T) c (cv ∷ []) → ent 𝓤 (⋆ 𝓤 H A (‵ (flft (ν ∷ []) fullShare) ∷ ‵ (Mutable RowRecord (ν ∷ []) δ b o (length zs) zs) ∷ [])) (ObeyC 𝓤 H A mem run .pre (to-ob ν δ zs k c cv))
     goes-ob ν δ zs k c cv k-is c-is =
-        qed W (‵ (flft (ν ∷ []) fullShare) ∷ ‵ (Mutable Record (ν ∷ []) δ b o (length zs) zs) ∷ []) ∵ nothing ! $ owned ! (requestP .T) (Is (requestP .T)) (requestP .makes 𝓤 H A W) c _ c-is $ fjoin ! $ owned ! (headP .T) (Is (headP .T)) (headP .makes 𝓤 H A W) k _ k-is $ fjoin ! $
+        qed W (‵ (flft (ν ∷ []) fullShare) ∷ ‵ (Mutable RowRecord (ν ∷ []) δ b o (length zs) zs) ∷ []) ∵ nothing ! $ owned ! (requestP .T) (Is (requestP .T)) (requestP .makes 𝓤 H A W) c _ c-is $ fjoin ! $ owned ! (headP .T) (Is (headP .T)) (headP .makes 𝓤 H A W) k _ k-is $ fjoin ! $
         move ! (2 ∷ 0 ∷ []) $ fjoin ! $ nothing ! $ move ! (2 ∷ 0 ∷ []) $ join ! $ join ! $ frame ! $ done !
 
     goes-an : (ν : ℕ) (δ : GName) (ps : List ℕ) (g : Fed) (c : Request) (cv : Val) (r : Outcome) (rv : Val) → Is (fedP .T) g (fedP .v g ∷ []) → Is (requestP .T) c (cv ∷ []) → Is (outcomeP .T) r (rv ∷ [])
@@ -230,9 +230,9 @@ module _ {M : Type 1} (𝓤 : URA M) (H : Heap 𝓤) (A : Atoms 𝓤) (W : Given
         owned ! (requestP .T) (Is (requestP .T)) (requestP .makes 𝓤 H A W) c _ c-is $ fjoin ! $ move ! (3 ∷ 0 ∷ []) $ fjoin ! $ owned ! (fedP .T) (Is (fedP .T)) (fedP .makes 𝓤 H A W) g _ g-is $ fjoin ! $ move ! (2 ∷ 0 ∷ []) $ fjoin ! $ move ! (1 ∷ 0 ∷ []) $ join ! $ frame ! $ done !
 
     exits : (zs : List Session) (g : Fed) (ps : List ℕ) → Is (fedP .T) g (fedP .v g ∷ []) → flow zs g ps ≡ feedOf ys z (m .now) os → length zs ≡ length ys → length ps ≡ length os
-        → ent 𝓤 (⋆ 𝓤 H A (‵ (Mutable Record κ γ b o (length ys) zs) ∷ ‵ (flft κ q) ∷ ‵ (Mutable u8 κ₂ γ₂ b₂ o₂ (length os) ps) ∷ ‵ (flft κ₂ q₂) ∷ ‵ Msg ∷ ‵ (flft κ₁ q₁) ∷ [])) (Post (fedP .v g))
+        → ent 𝓤 (⋆ 𝓤 H A (‵ (Mutable RowRecord κ γ b o (length ys) zs) ∷ ‵ (flft κ q) ∷ ‵ (Mutable u8 κ₂ γ₂ b₂ o₂ (length os) ps) ∷ ‵ (flft κ₂ q₂) ∷ ‵ Msg ∷ ‵ (flft κ₁ q₁) ∷ [])) (Post (fedP .v g))
     exits zs g ps is e len len₂ =
-        qed W (‵ (Mutable Record κ γ b o (length ys) zs) ∷ ‵ (flft κ q) ∷ ‵ (Mutable u8 κ₂ γ₂ b₂ o₂ (length os) ps) ∷ ‵ (flft κ₂ q₂) ∷ ‵ Msg ∷ ‵ (flft κ₁ q₁) ∷ []) ∵
+        qed W (‵ (Mutable RowRecord κ γ b o (length ys) zs) ∷ ‵ (flft κ q) ∷ ‵ (Mutable u8 κ₂ γ₂ b₂ o₂ (length os) ps) ∷ ‵ (flft κ₂ q₂) ∷ ‵ Msg ∷ ‵ (flft κ₁ q₁) ∷ []) ∵
         suffices ! _ (ends-at 𝓤 H A f.ended stayed (f.clauses 𝓤 H A mem run) W (((κ, (κ₁, (κ₂, tt))), (q, (q₁, (q₂, tt))), tt, a, at), tt) (fedP .v g) g (zs, (tt, (tt, (ps, tt)))) (len, (tt, (tt, (len₂, tt))))) $ says ! e $
         nothing ! $ move ! (4 ∷ 0 ∷ []) $ join ! $ move ! (5 ∷ 0 ∷ []) $ join ! $ move ! (2 ∷ 0 ∷ []) $ join ! $ frame ! $
         nothing ! $ move ! (2 ∷ 0 ∷ []) $ fjoin ! $ move ! (2 ∷ 0 ∷ []) $ fjoin ! $ owned ! (fedP .T) (Is (fedP .T)) (fedP .makes 𝓤 H A W) z _ z-is $ fjoin ! $ move ! (1 ∷ 0 ∷ []) $ fjoin ! $ frame ! $
@@ -250,7 +250,7 @@ module _ {M : Type 1} (𝓤 : URA M) (H : Heap 𝓤) (A : Atoms 𝓤) (W : Given
         fed-ty = tyStruct ν₅ τs₅
 
         abbrev row-ty : Ty
-        row-ty = sliceTy (tyRef (named 0) mut (pointee (Record .written)))
+        row-ty = sliceTy (tyRef (named 0) mut (pointee (RowRecord .written)))
 
         abbrev in-ty : Ty
         in-ty = sliceTy (tyRef (named 1) imm (pointee (u8 .written)))
@@ -259,10 +259,10 @@ module _ {M : Type 1} (𝓤 : URA M) (H : Heap 𝓤) (A : Atoms 𝓤) (W : Given
         out-ty = sliceTy (tyRef (named 2) mut (pointee (u8 .written)))
 
         abbrev ref-ty : Ty
-        ref-ty = tyRef erased mut (pointee (Record .written))
+        ref-ty = tyRef erased mut (pointee (RowRecord .written))
 
         abbrev row-ty′ : Ty
-        row-ty′ = sliceTy (tyRef erased mut (pointee (Record .written)))
+        row-ty′ = sliceTy (tyRef erased mut (pointee (RowRecord .written)))
 
         abbrev byte-ref-ty : Ty
         byte-ref-ty = tyRef erased mut (pointee (u8 .written))
@@ -278,7 +278,7 @@ module _ {M : Type 1} (𝓤 : URA M) (H : Heap 𝓤) (A : Atoms 𝓤) (W : Given
 
         -- what is held where a turn begins
         abbrev I : X → List (Item 𝓤)
-        I x = ‵ (Mutable Record κ γ b o (length ys) (x .row)) ∷ ‵ (flft κ q) ∷ ‵ (Mutable u8 κ₂ γ₂ b₂ o₂ (length os) (x .out)) ∷ ‵ (flft κ₂ q₂) ∷ ‵ Msg ∷ ‵ (flft κ₁ q₁) ∷ ‵ ftrue
+        I x = ‵ (Mutable RowRecord κ γ b o (length ys) (x .row)) ∷ ‵ (flft κ q) ∷ ‵ (Mutable u8 κ₂ γ₂ b₂ o₂ (length os) (x .out)) ∷ ‵ (flft κ₂ q₂) ∷ ‵ Msg ∷ ‵ (flft κ₁ q₁) ∷ ‵ ftrue
             ∷ ‵ (froom out-ty′ l₁₄ 0) ∷ ‵ (fdies out-ty′ l₁₄) ∷ ‵ (froom byte-ref-ty l₁₃ 0) ∷ ‵ (fdies byte-ref-ty l₁₃) ∷ ‵ (froom row-ty′ l₁₂ 0) ∷ ‵ (fdies row-ty′ l₁₂) ∷ ‵ (froom ref-ty l₁₁ 0) ∷ ‵ (fdies ref-ty l₁₁) ∷ ‵ (froom word l₁₀ 0) ∷ ‵ (fdies word l₁₀) ∷ ‵ (froom tyBool l₉ 0) ∷ ‵ (fdies tyBool l₉) ∷ ‵ (froom fed-ty l₈ 0) ∷ ‵ (fdies fed-ty l₈) ∷ ‵ (froom τ₇ l₇ 0) ∷ ‵ (fdies τ₇ l₇) ∷ ‵ (froom τ₆ l₆ 0) ∷ ‵ (fdies τ₆ l₆) ∷ ‵ (fat fullShare fed-ty l₅ 0 (fedP .v (x .fed))) ∷ ‵ (fdies fed-ty l₅) ∷ ‵ (fat fullShare out-ty l₄ 0 o-val) ∷ ‵ (fdies out-ty l₄) ∷ ‵ (fat fullShare in-ty l₃ 0 m-val) ∷ ‵ (fdies in-ty l₃) ∷ ‵ (fat fullShare fed-ty l₂ 0 (fedP .v z)) ∷ ‵ (fdies fed-ty l₂) ∷ ‵ (fat fullShare row-ty l₁ 0 s) ∷ ‵ (fdies row-ty l₁) ∷ ‵ (froom fed-ty l₀ 0) ∷ ‵ (fdies fed-ty l₀) ∷ []
 
         -- when the loop is left, the rest of the body runs
@@ -303,12 +303,12 @@ module _ {M : Type 1} (𝓤 : URA M) (H : Heap 𝓤) (A : Atoms 𝓤) (W : Given
             -- the row is lent on, for a lifetime ν, to `obey`
             assigns ! (addr ! (from ! (fld ! refl (hop ! (look-in ! 33 (sub ! 0 refl (whole !))) (stop !))))) (from ! (stop !)) (init ! 13 refl (tt, tt)) $
             assigns ! (agg ! (and-then ! (load ! (from ! (stop !)) (look ! 13 refl)) (and-then ! (load ! (from ! (fld ! refl (stop !))) (look-in ! 33 (sub ! 1 refl (whole !)))) (no-more !)))) (from ! (stop !)) (init ! 11 refl (tt, (tt, (record { fits = room .0 }, tt)))) $
-            rewrite ! 11 (λ (n : ℕ). ‵ (fat fullShare row-ty′ l₁₂ 0 (sliceVal (b, o) n))) (sym (x .row-len)) refl $ rewrite ! 0 (λ (n : ℕ). ‵ (Mutable Record κ γ b o n (x .row))) (sym (x .row-len)) refl $
-            lft-new ! tt (λ ν. move ! (1 ∷ 2 ∷ []) $ lent-mutable Record ! tt (ν ∷ []) b o (x .row) (λ δ. move ! (2 ∷ 0 ∷ []) $
+            rewrite ! 11 (λ (n : ℕ). ‵ (fat fullShare row-ty′ l₁₂ 0 (sliceVal (b, o) n))) (sym (x .row-len)) refl $ rewrite ! 0 (λ (n : ℕ). ‵ (Mutable RowRecord κ γ b o n (x .row))) (sym (x .row-len)) refl $
+            lft-new ! tt (λ ν. move ! (1 ∷ 2 ∷ []) $ lent-mutable RowRecord ! tt (ν ∷ []) b o (x .row) (λ δ. move ! (2 ∷ 0 ∷ []) $
             use2 W (raw (ObeyC 𝓤 H A mem run .pre (to-ob ν δ (x .row) (x .fed .head) c w₁))) (goes-ob ν δ (x .row) (x .fed .head) c w₁ (fed-head (x .fed) _ (x .is)) was₁) $
             callee-answers ! fm ob.ended (ob.clauses 𝓤 H A mem run) known-ob (to-ob ν δ (x .row) (x .fed .head) c w₁) (and-then ! (load ! (from ! (stop !)) (look ! 11 refl)) (and-then ! (load ! (from ! (fld ! f₀ (stop !))) (look-in ! 25 (sub ! 0 f₀ (whole !)))) (and-then ! (load ! (from ! (stop !)) (look ! 23 refl)) (no-more !))))
             (λ r zs. (r ≡ rowStep (x .row) (x .fed .head) c .outcome) × (zs .0 ≡ rowAfter (x .row) (x .fed .head) c)) (λ _ _. id⊢ 𝓤 _) (λ w₂ r zs e₂ was₂. token-back ! (ν ∷ []) fullShare $ lft-end ! tt $ move ! (1 ∷ []) $ fsplit ! $ fsplit ! $ move ! (1 ∷ []) $ feqL ! (λ len.
-            move ! (2 ∷ 3 ∷ 0 ∷ []) $ mutable-back Record ! tt (ν ∷ []) b o δ (x .row) (zs .0) len $ rewrite ! 0 (λ (n : ℕ). ‵ (Mutable Record κ γ b o n (zs .0))) (x .row-len) refl $ move ! (2 ∷ []) $ drop ! $
+            move ! (2 ∷ 3 ∷ 0 ∷ []) $ mutable-back RowRecord ! tt (ν ∷ []) b o δ (x .row) (zs .0) len $ rewrite ! 0 (λ (n : ℕ). ‵ (Mutable RowRecord κ γ b o n (zs .0))) (x .row-len) refl $ move ! (2 ∷ []) $ drop ! $
             land ! (from ! (stop !)) (init ! 21 refl (ty₇ r w₂ was₂)) $
             -- the output is lent on, for a lifetime μ, to `answer_line`
             assigns ! (addr ! (from ! (fld ! refl (hop ! (look-in ! 27 (sub ! 0 refl (whole !))) (stop !))))) (from ! (stop !)) (init ! 9 refl (tt, tt)) $
@@ -340,7 +340,7 @@ module _ {M : Type 1} (𝓤 : URA M) (H : Heap 𝓤) (A : Atoms 𝓤) (W : Given
 
       walk : ent 𝓤 (onEntry 𝓤 H A f.signature (κ, (κ₁, (κ₂, tt))) (q, (q₁, (q₂, tt))) a at) (WpFn 𝓤 H (𝓣 .C) (𝓣 .Λ) code.function (s ∷ fedP .v z ∷ m-val ∷ o-val ∷ []) Post)
       walk =
-          qed W ((‵ (flft κ q) ⊛ ‵ (flft κ₁ q₁) ⊛ ‵ (flft κ₂ q₂) ⊛ ‵ ftrue) ∷ ‵ (owns (MutSlice (named 0) κ Record ∷ fedP .T ∷ ShrSlice (named 1) κ₁ u8 ∷ MutSlice (named 2) κ₂ u8 ∷ []) a at) ∷ []) ∵ enter ! (𝓣 .C) (𝓣 .Λ) code.function (s ∷ fedP .v z ∷ m-val ∷ o-val ∷ []) _ $
+          qed W ((‵ (flft κ q) ⊛ ‵ (flft κ₁ q₁) ⊛ ‵ (flft κ₂ q₂) ⊛ ‵ ftrue) ∷ ‵ (owns (MutSlice (named 0) κ RowRecord ∷ fedP .T ∷ ShrSlice (named 1) κ₁ u8 ∷ MutSlice (named 2) κ₂ u8 ∷ []) a at) ∷ []) ∵ enter ! (𝓣 .C) (𝓣 .Λ) code.function (s ∷ fedP .v z ∷ m-val ∷ o-val ∷ []) _ $
           alloc1 ! (λ l₀. alloc1 ! (λ l₁. alloc1 ! (λ l₂. alloc1 ! (λ l₃. alloc1 ! (λ l₄. alloc1 ! (λ l₅. alloc1 ! (λ l₆. alloc1 ! (λ l₇. alloc1 ! (λ l₈. alloc1 ! (λ l₉. alloc1 ! (λ l₁₀. alloc1 ! (λ l₁₁. alloc1 ! (λ l₁₂. alloc1 ! (λ l₁₃. alloc1 ! (λ l₁₄. alloc0 ! $ params1 ! $
           pass1 ! (init ! 26 refl (tt, (tt, (record { fits = room .0 }, tt)))) $ pass1 ! (init ! 24 refl (fedP .typed 𝓤 H A W z _ z-is)) $ pass1 ! (init ! 22 refl (tt, (tt, (record { fits = m-room .0 }, tt)))) $ pass1 ! (init ! 20 refl (tt, (tt, (record { fits = o-room .0 }, tt)))) $ pass0 ! $
           assigns ! (of-opd ! (load ! (from ! (stop !)) (look ! 24 refl))) (from ! (stop !)) (init ! 18 refl (fedP .typed 𝓤 H A W z _ z-is)) $
@@ -356,8 +356,8 @@ feed-row-spec 𝓤 H 𝓜 𝓖 𝓡 =
     entered 𝓤 H (tripleOf 𝓤 H (𝓖 .A) f.signature (f.spec 𝓤 H (𝓖 .A) (𝓜 .mem) (𝓡 .run)))
     (tables 𝓤 H 𝓜 𝓡 code.env .C) (tables 𝓤 H 𝓜 𝓡 code.env .Λ) #feed·feed-row code.function (code.unfolded 𝓤 H 𝓜 𝓡)
     (meets-by-walk 𝓤 H (𝓖 .A) (givenOf 𝓤 H 𝓜 𝓖) f.ended stayed (f.clauses 𝓤 H (𝓖 .A) (𝓜 .mem) (𝓡 .run)) code.function (tablesOf 𝓤 H 𝓜 (tables 𝓤 H 𝓜 𝓡 code.env))
-    (goes-slice 𝓤 H (𝓖 .A) (givenOf 𝓤 H 𝓜 𝓖) 3 0 tt (plain (λ _. Record)), (goes-none 𝓤 H (𝓖 .A) (givenOf 𝓤 H 𝓜 𝓖) 3 (λ _. fedP .T) yes (λ κs x f. refl), (goes-none-slice 𝓤 H (𝓖 .A) (givenOf 𝓤 H 𝓜 𝓖) 3 (1 ∷ []) tt (plain (λ _. u8)) yes, (goes-slice 𝓤 H (𝓖 .A) (givenOf 𝓤 H 𝓜 𝓖) 3 2 tt (plain (λ _. u8)), tt))))
-    (λ κs. (slice-vals, ((λ x. fedP .v x ∷ []), (slice-vals, (slice-vals, tt))))) (λ κs. (mut-slice-tells (named 0) (κs .0) Record, (fedP .tells, (shr-slice-tells (named 1) (κs .1 .0) u8, (mut-slice-tells (named 2) (κs .1 .1 .0) u8, tt)))))
+    (goes-slice 𝓤 H (𝓖 .A) (givenOf 𝓤 H 𝓜 𝓖) 3 0 tt (plain (λ _. RowRecord)), (goes-none 𝓤 H (𝓖 .A) (givenOf 𝓤 H 𝓜 𝓖) 3 (λ _. fedP .T) yes (λ κs x f. refl), (goes-none-slice 𝓤 H (𝓖 .A) (givenOf 𝓤 H 𝓜 𝓖) 3 (1 ∷ []) tt (plain (λ _. u8)) yes, (goes-slice 𝓤 H (𝓖 .A) (givenOf 𝓤 H 𝓜 𝓖) 3 2 tt (plain (λ _. u8)), tt))))
+    (λ κs. (slice-vals, ((λ x. fedP .v x ∷ []), (slice-vals, (slice-vals, tt))))) (λ κs. (mut-slice-tells (named 0) (κs .0) RowRecord, (fedP .tells, (shr-slice-tells (named 1) (κs .1 .0) u8, (mut-slice-tells (named 2) (κs .1 .1 .0) u8, tt)))))
     (λ κs qs bounds a g are.
     walk 𝓤 H (𝓖 .A) (givenOf 𝓤 H 𝓜 𝓖) (𝓜 .mem) (𝓡 .run) (κs .0) (κs .1 .0) (κs .1 .1 .0) (qs .0) (qs .1 .0) (qs .1 .1 .0) (a .0 .ptr .0) (a .0 .ptr .1) (a .0 .name) (a .0 .now) (a .1 .0) (a .1 .1 .0) (a .1 .1 .1 .0 .ptr .0) (a .1 .1 .1 .0 .ptr .1) (a .1 .1 .1 .0 .name) (a .1 .1 .1 .0 .now)
     (are .0 .0 .1) (are .1 .0) (are .1 .1 .0 .0 .1) (are .1 .1 .1 .0 .0 .1) (tablesOf 𝓤 H 𝓜 (tables 𝓤 H 𝓜 𝓡 code.env)) (fmOf 𝓤 H (givenOf 𝓤 H 𝓜 𝓖 .laws) (tablesOf 𝓤 H 𝓜 (tables 𝓤 H 𝓜 𝓡 code.env)))

@@ -42,7 +42,7 @@ use Rattle.table.specs.declared.Head.{Head}
 use Rattle.table.specs.Table.{emptied}
 use Rattle.step.specs.Stepping.{tableOf}
 use Rattle.row.proofs.LentSlice.{slice, Shared}
-use Rattle.row.proofs.RecordOfRow.{Record}
+use Rattle.row.proofs.RecordOfRow.{RowRecord}
 use Rattle.row.proofs.Callee.{callee-answers}
 use Rattle.row.proofs.Locals.{frees-stored}
 use Rattle.row.proofs.ByWalk.{meets-by-walk}
@@ -62,7 +62,7 @@ use Rattle.korvezul.proofs.korvezul_empty.Statement as stated
 use Rattle.korvezul.proofs.korvezul_empty.Code as code
 
 abbrev stayed : Stays (f.ended .signature .params) (f.ended .kept)
-stayed = (stay-none-slice (0 ∷ []) tt (plain (λ _. Record)) yes, (stay-ref (1 ∷ []) tt (plain (λ _. headP .T)), tt))
+stayed = (stay-none-slice (0 ∷ []) tt (plain (λ _. RowRecord)) yes, (stay-ref (1 ∷ []) tt (plain (λ _. headP .T)), tt))
 
 -- ---- what the definition says, with no model: by the two cases of the length
 emptied-is : (ys : List Session) (h : Head) → record { number = begunOf (length ys) h .answer; table = tableOf ys (begunOf (length ys) h .head) } ≡ emptying ys h
@@ -80,7 +80,7 @@ module _ {M : Type 1} (𝓤 : URA M) (H : Heap 𝓤) (A : Atoms 𝓤) (mem : Mem
 module _ {M : Type 1} (𝓤 : URA M) (H : Heap 𝓤) (A : Atoms 𝓤) (W : Given 𝓤 H A) (mem : Memory → SProp 𝓤) (run : Routine → Fun 𝓤) (κ κ′ : Lft) (q q′ : Share) (b o : ℕ) (γ : GName) (ys : List Session) (b′ o′ : ℕ) (γ′ : GName) (h : Head) where
   -- the arguments, and their machine values
   abbrev a : Args f.signature (κ, (κ′, tt))
-  a = (slice Record γ b o ys, (reference headP γ′ b′ o′ h, tt))
+  a = (slice RowRecord γ b o ys, (reference headP γ′ b′ o′ h, tt))
 
   abbrev s : Val
   s = sliceVal (b, o) (length ys)
@@ -102,15 +102,15 @@ module _ {M : Type 1} (𝓤 : URA M) (H : Heap 𝓤) (A : Atoms 𝓤) (W : Given
   head-is : (c : Begun) (vs : List Val) → Is Begun′.the-row c vs → Is (headP .T) (c .head) (headP .v (c .head) ∷ [])
   head-is c vs was = at-v headP (c .head) _ (LL.owed Begun′.the-type Begun″.the-laws c vs was .0)
 
-  module _ (room : Room Record (length ys)) where
+  module _ (room : Room RowRecord (length ys)) where
     goes-ft : Is (headP .T) h (headP .v h ∷ []) → ent 𝓤 (emp 𝓤) (First 𝓤 H A mem run .pre to-ft)
     goes-ft h-is =
         qed W [] ∵ nothing ! $ owned ! (headP .T) (Is (headP .T)) (headP .makes 𝓤 H A W) h _ h-is $ fjoin ! $ owned ! usize (Is usize) (uint-makes 𝓤 H A W w64) (length ys) _ (refl, room .0) $ fjoin ! $ nothing ! $ join ! $ frame ! $ done !
 
     exits : (n : ℕ) (h′ : Head) → n < 2 ^ 32 → record { number = n; table = tableOf ys h′ } ≡ emptying ys h
-        → ent 𝓤 (⋆ 𝓤 H A (‵ (Lent headP κ′ γ′ b′ o′ h′) ∷ ‵ (flft κ′ q′) ∷ ‵ (Shared Record κ γ b o (length ys) ys) ∷ ‵ (flft κ q) ∷ [])) (Post (vint w32 n))
+        → ent 𝓤 (⋆ 𝓤 H A (‵ (Lent headP κ′ γ′ b′ o′ h′) ∷ ‵ (flft κ′ q′) ∷ ‵ (Shared RowRecord κ γ b o (length ys) ys) ∷ ‵ (flft κ q) ∷ [])) (Post (vint w32 n))
     exits n h′ fits e =
-        qed W (‵ (Lent headP κ′ γ′ b′ o′ h′) ∷ ‵ (flft κ′ q′) ∷ ‵ (Shared Record κ γ b o (length ys) ys) ∷ ‵ (flft κ q) ∷ []) ∵
+        qed W (‵ (Lent headP κ′ γ′ b′ o′ h′) ∷ ‵ (flft κ′ q′) ∷ ‵ (Shared RowRecord κ γ b o (length ys) ys) ∷ ‵ (flft κ q) ∷ []) ∵
         suffices ! _ (ends-at 𝓤 H A f.ended stayed (f.clauses 𝓤 H A mem run) W (((κ, (κ′, tt)), (q, (q′, tt)), tt, a, at), tt) (vint w32 n) n (tt, (h′, tt)) (tt, (tt, tt))) $ says ! e $
         nothing ! $ move ! (2 ∷ 0 ∷ []) $ join ! $ move ! (3 ∷ 0 ∷ []) $ join ! $ frame ! $
         nothing ! $ move ! (1 ∷ 0 ∷ []) $ fjoin ! $ move ! (1 ∷ 0 ∷ []) $ fjoin ! $ frame ! $
@@ -119,7 +119,7 @@ module _ {M : Type 1} (𝓤 : URA M) (H : Heap 𝓤) (A : Atoms 𝓤) (W : Given
     walk : (C : Calls 𝓤 H) (Λ : Loops 𝓤 H) → FmC 𝓤 H (W .laws) C → Triple 𝓤 (C #korvezul·first-table) (First 𝓤 H A mem run)
         → ent 𝓤 (onEntry 𝓤 H A f.signature (κ, (κ′, tt)) (q, (q′, tt)) a at) (WpFn 𝓤 H C Λ code.function (s ∷ vptr b′ o′ ∷ []) Post)
     walk C Λ fm known-ft =
-        qed W ((‵ (flft κ q) ⊛ ‵ (flft κ′ q′) ⊛ ‵ ftrue) ∷ ‵ (owns (ShrSlice (named 0) κ Record ∷ MutRef (named 1) κ′ (headP .T) ∷ []) a at) ∷ []) ∵ enter ! C Λ code.function (s ∷ vptr b′ o′ ∷ []) _ $
+        qed W ((‵ (flft κ q) ⊛ ‵ (flft κ′ q′) ⊛ ‵ ftrue) ∷ ‵ (owns (ShrSlice (named 0) κ RowRecord ∷ MutRef (named 1) κ′ (headP .T) ∷ []) a at) ∷ []) ∵ enter ! C Λ code.function (s ∷ vptr b′ o′ ∷ []) _ $
         alloc1 ! (λ l₀. alloc1 ! (λ l₁. alloc1 ! (λ l₂. alloc1 ! (λ l₃. alloc1 ! (λ l₄. alloc1 ! (λ l₅. alloc0 ! $ params1 ! $
         pass1 ! (init ! 8 refl (tt, (tt, (record { fits = room .0 }, tt)))) $ pass1 ! (init ! 6 refl (tt, tt)) $ pass0 ! $
         -- of what is owned at entry: the borrow, the row and the tokens
@@ -143,8 +143,8 @@ korvezul-empty-spec 𝓤 H 𝓜 𝓖 𝓡 =
     entered 𝓤 H (tripleOf 𝓤 H (𝓖 .A) f.signature (f.spec 𝓤 H (𝓖 .A) (𝓜 .mem) (𝓡 .run)))
     (tables 𝓤 H 𝓜 𝓡 code.env .C) (tables 𝓤 H 𝓜 𝓡 code.env .Λ) #korvezul·empty code.function (code.unfolded 𝓤 H 𝓜 𝓡)
     (meets-by-walk 𝓤 H (𝓖 .A) (givenOf 𝓤 H 𝓜 𝓖) f.ended stayed (f.clauses 𝓤 H (𝓖 .A) (𝓜 .mem) (𝓡 .run)) code.function (tablesOf 𝓤 H 𝓜 (tables 𝓤 H 𝓜 𝓡 code.env))
-    (goes-none-slice 𝓤 H (𝓖 .A) (givenOf 𝓤 H 𝓜 𝓖) 2 (0 ∷ []) tt (plain (λ _. Record)) yes, (goes-ref 𝓤 H (𝓖 .A) (givenOf 𝓤 H 𝓜 𝓖) 2 1 tt (plain (λ _. headP .T)), tt))
-    (λ κs. (slice-vals, (ptr-vals, tt))) (λ κs. (shr-slice-tells (named 0) (κs .0) Record, (mut-tells (named 1) (κs .1 .0) (headP .T), tt)))
+    (goes-none-slice 𝓤 H (𝓖 .A) (givenOf 𝓤 H 𝓜 𝓖) 2 (0 ∷ []) tt (plain (λ _. RowRecord)) yes, (goes-ref 𝓤 H (𝓖 .A) (givenOf 𝓤 H 𝓜 𝓖) 2 1 tt (plain (λ _. headP .T)), tt))
+    (λ κs. (slice-vals, (ptr-vals, tt))) (λ κs. (shr-slice-tells (named 0) (κs .0) RowRecord, (mut-tells (named 1) (κs .1 .0) (headP .T), tt)))
     (λ κs qs bounds a g are.
     walk 𝓤 H (𝓖 .A) (givenOf 𝓤 H 𝓜 𝓖) (𝓜 .mem) (𝓡 .run) (κs .0) (κs .1 .0) (qs .0) (qs .1 .0) (a .0 .ptr .0) (a .0 .ptr .1) (a .0 .name) (a .0 .now) (a .1 .0 .ptr .0) (a .1 .0 .ptr .1) (a .1 .0 .name) (a .1 .0 .now) (are .0 .0 .1) _ _
     (fmOf 𝓤 H (givenOf 𝓤 H 𝓜 𝓖 .laws) (tablesOf 𝓤 H 𝓜 (tables 𝓤 H 𝓜 𝓡 code.env)))

@@ -33,6 +33,6 @@ korvezul-open-spec 𝓤 H 𝓜 𝓖 𝓡 =
     (tables 𝓤 H 𝓜 𝓡 code.env .C) (tables 𝓤 H 𝓜 𝓡 code.env .Λ) #korvezul·open code.function (code.unfolded 𝓤 H 𝓜 𝓡)
     (thin.meets settingsP u64P u32P (spell pieces.table) (settingsP .typed 𝓤 H (𝓖 .A) (givenOf 𝓤 H 𝓜 𝓖)) (u64P .typed 𝓤 H (𝓖 .A) (givenOf 𝓤 H 𝓜 𝓖)) (u32P .typed 𝓤 H (𝓖 .A) (givenOf 𝓤 H 𝓜 𝓖)) (requestP .typed 𝓤 H (𝓖 .A) (givenOf 𝓤 H 𝓜 𝓖)) (outcomeP .typed 𝓤 H (𝓖 .A) (givenOf 𝓤 H 𝓜 𝓖))
     Open (λ g t. numberOnly (Open g t)) (λ (o : Outcome). o .answer) (λ g t u. refl) #korvezul·open-request #korvezul·number 𝓤 H (𝓖 .A) (givenOf 𝓤 H 𝓜 𝓖) (𝓜 .mem) (𝓡 .run) (tablesOf 𝓤 H 𝓜 (tables 𝓤 H 𝓜 𝓡 code.env))
-    (cited 𝓤 H (thin.Maker settingsP u64P u32P Open 𝓤 H (𝓖 .A)) 𝓜 𝓡 code.env #korvezul·open-request g-def.routine code.calls-korvezul·requests·open-request (g-thm.met 𝓤 H 𝓜 𝓖 𝓡))
+    (cited 𝓤 H (thin.Maker settingsP u64P Open 𝓤 H (𝓖 .A)) 𝓜 𝓡 code.env #korvezul·open-request g-def.routine code.calls-korvezul·requests·open-request (g-thm.met 𝓤 H 𝓜 𝓖 𝓡))
     (cited 𝓤 H (Answers u32P (λ (o : Outcome). o .answer) 𝓤 H (𝓖 .A)) 𝓜 𝓡 code.env #korvezul·number h-def.routine code.calls-korvezul·answers·number (h-thm.met 𝓤 H 𝓜 𝓖 𝓡))
     (cited 𝓤 H (ObeyLent 𝓤 H (𝓖 .A) (𝓜 .mem) (𝓡 .run)) 𝓜 𝓡 code.env #korvezul·obey-lent o-def.routine code.calls-korvezul·obey-lent (o-thm.met 𝓤 H 𝓜 𝓖 𝓡)))

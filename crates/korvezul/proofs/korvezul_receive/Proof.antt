@@ -48,7 +48,7 @@ use Rattle.step.proofs.receive_request.Symbol as mk-def
 use Rattle.step.proofs.receive_request.Symbol.{name as #step·receive-request}
 use Rattle.step.proofs.receive_request.Met as mk-thm
 use Rattle.row.proofs.LentSlice.{slice, Mutable}
-use Rattle.row.proofs.RecordOfRow.{Record}
+use Rattle.row.proofs.RecordOfRow.{RowRecord}
 use Rattle.row.proofs.Callee.{callee-answers, token-back}
 use Rattle.row.proofs.Locals.{frees-stored}
 use Rattle.row.proofs.ByWalk.{meets-by-walk}
@@ -76,8 +76,8 @@ function τ₆ τ₇ σ σ′ = record {
   lifetimes = 3;
   outlives = [];
   params = 5;
-  locals = local (tyInt w32) valueLocal ∷ local (sliceTy (tyRef (named 0) mut (pointee (Record .written)))) valueLocal ∷ local (tyRef (named 1) mut (pointee (headP .T .written))) valueLocal ∷ local (tyInt w32) valueLocal ∷ local (sliceTy (tyRef (named 2) imm (tyInt w8))) valueLocal ∷ local (tyInt w64) valueLocal
-      ∷ local τ₆ valueLocal ∷ local τ₇ valueLocal ∷ local (tyRef erased mut (pointee (Record .written))) valueLocal ∷ local (sliceTy (tyRef erased mut (pointee (Record .written)))) valueLocal ∷ local (tyRef erased mut (pointee (headP .T .written))) valueLocal ∷ [];
+  locals = local (tyInt w32) valueLocal ∷ local (sliceTy (tyRef (named 0) mut (pointee (RowRecord .written)))) valueLocal ∷ local (tyRef (named 1) mut (pointee (headP .T .written))) valueLocal ∷ local (tyInt w32) valueLocal ∷ local (sliceTy (tyRef (named 2) imm (tyInt w8))) valueLocal ∷ local (tyInt w64) valueLocal
+      ∷ local τ₆ valueLocal ∷ local τ₇ valueLocal ∷ local (tyRef erased mut (pointee (RowRecord .written))) valueLocal ∷ local (sliceTy (tyRef erased mut (pointee (RowRecord .written)))) valueLocal ∷ local (tyRef erased mut (pointee (headP .T .written))) valueLocal ∷ [];
   body = seq (call #step·receive-request (copy (place 3 []) ∷ copy (place 4 []) ∷ copy (place 5 []) ∷ []) (place 6 []))
       (seq (assign (place 8 []) (addrOf (place 1 (field 0 ∷ deref σ ∷ []))))
       (seq (assign (place 9 []) (aggregate (copy (place 8 []) ∷ copy (place 1 (field 1 ∷ [])) ∷ [])))
@@ -87,7 +87,7 @@ function τ₆ τ₇ σ σ′ = record {
 }
 
 abbrev stayed : Stays (f.ended .signature .params) (f.ended .kept)
-stayed = (gave-slice (0 ∷ []) tt (plain (λ _. Record)), (gave-ref (1 ∷ []) tt (plain (λ _. headP .T)), (stay-none (λ _. u32) yes, (stay-none-slice (2 ∷ []) tt (plain (λ _. u8)) yes, (stay-none (λ _. u64) yes, tt)))))
+stayed = (gave-slice (0 ∷ []) tt (plain (λ _. RowRecord)), (gave-ref (1 ∷ []) tt (plain (λ _. headP .T)), (stay-none (λ _. u32) yes, (stay-none-slice (2 ∷ []) tt (plain (λ _. u8)) yes, (stay-none (λ _. u64) yes, tt)))))
 
 module _ {M : Type 1} (𝓤 : URA M) (H : Heap 𝓤) (A : Atoms 𝓤) (mem : Memory → SProp 𝓤) (run : Routine → Fun 𝓤) where
   -- the contracts that the proof cites
@@ -120,7 +120,7 @@ module _ (ys : List Session) (h : Head) (l : ℕ) (ms : List ℕ) (u : ℕ) wher
 module _ {M : Type 1} (𝓤 : URA M) (H : Heap 𝓤) (A : Atoms 𝓤) (W : Given 𝓤 H A) (mem : Memory → SProp 𝓤) (run : Routine → Fun 𝓤) (κ κ′ κ₂ : Lft) (q q′ q₂ : Share) (b o : ℕ) (γ : GName) (ys : List Session) (b′ o′ : ℕ) (γ′ : GName) (h : Head) (l : ℕ) (m : RefT (List ℕ)) (u : ℕ) where
   -- the arguments, and their machine values
   abbrev a : Args f.signature (κ, (κ′, (κ₂, tt)))
-  a = (slice Record γ b o ys, (reference headP γ′ b′ o′ h, (l, (m, (u, tt)))))
+  a = (slice RowRecord γ b o ys, (reference headP γ′ b′ o′ h, (l, (m, (u, tt)))))
 
   abbrev s : Val
   s = sliceVal (b, o) (length ys)
@@ -143,30 +143,30 @@ module _ {M : Type 1} (𝓤 : URA M) (H : Heap 𝓤) (A : Atoms 𝓤) (W : Given
   to-mk = (((κ₂, tt), (q₂, tt), tt, (l, (m, (u, tt))), (vint w32 l ∷ [], (m-val ∷ [], (vint w64 u ∷ [], tt)))), tt)
 
   abbrev to-ob : Request → Val → ObeyC 𝓤 H A mem run .Ghost
-  to-ob c w = (((κ, (κ′, tt)), (q, (q′, tt)), tt, (slice Record γ b o ys, (reference headP γ′ b′ o′ h, (c, tt))), (s ∷ [], (vptr b′ o′ ∷ [], (w ∷ [], tt)))), tt)
+  to-ob c w = (((κ, (κ′, tt)), (q, (q′, tt)), tt, (slice RowRecord γ b o ys, (reference headP γ′ b′ o′ h, (c, tt))), (s ∷ [], (vptr b′ o′ ∷ [], (w ∷ [], tt)))), tt)
 
   abbrev to-nu : Outcome → Val → NumberC 𝓤 H A mem run .Ghost
   to-nu r w = ((tt, tt, tt, (r, tt), (w ∷ [], tt)), tt)
 
-  module _ (room : Room Record (length ys)) (gl : l < 2 ^ 32) (m-room : Room u8 (length (m .now))) (gu : u < 2 ^ 64) where
+  module _ (room : Room RowRecord (length ys)) (gl : l < 2 ^ 32) (m-room : Room u8 (length (m .now))) (gu : u < 2 ^ 64) where
     -- what each callee asks
     goes-mk : ent 𝓤 (⋆ 𝓤 H A (‵ (flft κ₂ q₂) ∷ ‵ Msg ∷ [])) (MakeC 𝓤 H A mem run .pre to-mk)
     goes-mk =
         qed W (‵ (flft κ₂ q₂) ∷ ‵ Msg ∷ []) ∵ nothing ! $ owned ! u64 (Is u64) (uint-makes 𝓤 H A W w64) u _ (refl, gu) $ fjoin ! $ move ! (2 ∷ 0 ∷ []) $ fjoin ! $ owned ! u32 (Is u32) (uint-makes 𝓤 H A W w32) l _ (refl, gl) $ fjoin ! $
         nothing ! $ move ! (2 ∷ 0 ∷ []) $ join ! $ join ! $ frame ! $ done !
 
-    goes-ob : (c : Request) (w : Val) → Is (requestP .T) c (w ∷ []) → ent 𝓤 (⋆ 𝓤 H A ((‵ (flft κ q) ⊛ ‵ (flft κ′ q′) ⊛ ‵ ftrue) ∷ ‵ (Mutable Record κ γ b o (length ys) ys) ∷ ‵ (Lent headP κ′ γ′ b′ o′ h) ∷ [])) (ObeyC 𝓤 H A mem run .pre (to-ob c w))
+    goes-ob : (c : Request) (w : Val) → Is (requestP .T) c (w ∷ []) → ent 𝓤 (⋆ 𝓤 H A ((‵ (flft κ q) ⊛ ‵ (flft κ′ q′) ⊛ ‵ ftrue) ∷ ‵ (Mutable RowRecord κ γ b o (length ys) ys) ∷ ‵ (Lent headP κ′ γ′ b′ o′ h) ∷ [])) (ObeyC 𝓤 H A mem run .pre (to-ob c w))
     goes-ob c w c-is =
-        qed W ((‵ (flft κ q) ⊛ ‵ (flft κ′ q′) ⊛ ‵ ftrue) ∷ ‵ (Mutable Record κ γ b o (length ys) ys) ∷ ‵ (Lent headP κ′ γ′ b′ o′ h) ∷ []) ∵ nothing ! $ owned ! (requestP .T) (Is (requestP .T)) (requestP .makes 𝓤 H A W) c _ c-is $ fjoin ! $
+        qed W ((‵ (flft κ q) ⊛ ‵ (flft κ′ q′) ⊛ ‵ ftrue) ∷ ‵ (Mutable RowRecord κ γ b o (length ys) ys) ∷ ‵ (Lent headP κ′ γ′ b′ o′ h) ∷ []) ∵ nothing ! $ owned ! (requestP .T) (Is (requestP .T)) (requestP .makes 𝓤 H A W) c _ c-is $ fjoin ! $
         move ! (3 ∷ 0 ∷ []) $ fjoin ! $ move ! (2 ∷ 0 ∷ []) $ fjoin ! $ move ! (1 ∷ 0 ∷ []) $ join ! $ frame ! $ done !
 
     goes-nu : (r : Outcome) (w : Val) → Is (outcomeP .T) r (w ∷ []) → ent 𝓤 (emp 𝓤) (NumberC 𝓤 H A mem run .pre (to-nu r w))
     goes-nu r w r-is = qed W [] ∵ nothing ! $ owned ! (outcomeP .T) (Is (outcomeP .T)) (outcomeP .makes 𝓤 H A W) r _ r-is $ fjoin ! $ nothing ! $ join ! $ frame ! $ done !
 
     exits : (w : Val) (n : ℕ) (zs : List Session) (h′ : Head) → Is u32 n (w ∷ []) → left ys h l (m .now) u n zs h′ ≡ called (tableOf ys h) (On l (Receive (m .now) u)) → length zs ≡ length ys
-        → ent 𝓤 (⋆ 𝓤 H A (‵ (fres γ′ (headP .T .coded .code h′)) ∷ ‵ (finally Record γ zs) ∷ ‵ (flft κ′ q′) ∷ ‵ (flft κ q) ∷ ‵ (flft κ₂ q₂) ∷ ‵ Msg ∷ [])) (Post w)
+        → ent 𝓤 (⋆ 𝓤 H A (‵ (fres γ′ (headP .T .coded .code h′)) ∷ ‵ (finally RowRecord γ zs) ∷ ‵ (flft κ′ q′) ∷ ‵ (flft κ q) ∷ ‵ (flft κ₂ q₂) ∷ ‵ Msg ∷ [])) (Post w)
     exits w n zs h′ is e len =
-        qed W (‵ (fres γ′ (headP .T .coded .code h′)) ∷ ‵ (finally Record γ zs) ∷ ‵ (flft κ′ q′) ∷ ‵ (flft κ q) ∷ ‵ (flft κ₂ q₂) ∷ ‵ Msg ∷ []) ∵
+        qed W (‵ (fres γ′ (headP .T .coded .code h′)) ∷ ‵ (finally RowRecord γ zs) ∷ ‵ (flft κ′ q′) ∷ ‵ (flft κ q) ∷ ‵ (flft κ₂ q₂) ∷ ‵ Msg ∷ []) ∵
         suffices ! _ (ends-at 𝓤 H A f.ended stayed (f.clauses 𝓤 H A mem run) W (((κ, (κ′, (κ₂, tt))), (q, (q′, (q₂, tt))), tt, a, at), tt) w n (zs, (h′, (tt, (tt, (tt, tt))))) (len, (tt, (tt, (tt, (tt, tt)))))) $ says ! e $
         nothing ! $ move ! (5 ∷ 0 ∷ []) $ join ! $ move ! (3 ∷ 0 ∷ []) $ join ! $ move ! (3 ∷ 0 ∷ []) $ join ! $ frame ! $
         nothing ! $ owned ! u64 (Is u64) (uint-makes 𝓤 H A W w64) u _ (refl, gu) $ fjoin ! $ move ! (3 ∷ 0 ∷ []) $ fjoin ! $ owned ! u32 (Is u32) (uint-makes 𝓤 H A W w32) l _ (refl, gl) $ fjoin ! $ move ! (1 ∷ 0 ∷ []) $ fjoin ! $ move ! (1 ∷ 0 ∷ []) $ fjoin ! $ frame ! $
@@ -176,7 +176,7 @@ module _ {M : Type 1} (𝓤 : URA M) (H : Heap 𝓤) (A : Atoms 𝓤) (W : Given
         → ((x : Request) (w : Val) → Is (requestP .T) x (w ∷ []) → Holds (hasTy τ₆ w) × WT w) → ((x : Outcome) (w : Val) → Is (outcomeP .T) x (w ∷ []) → Holds (hasTy τ₇ w) × WT w)
         → ent 𝓤 (onEntry 𝓤 H A f.signature (κ, (κ′, (κ₂, tt))) (q, (q′, (q₂, tt))) a at) (WpFn 𝓤 H C Λ (function τ₆ τ₇ σ σ′) (s ∷ vptr b′ o′ ∷ vint w32 l ∷ m-val ∷ vint w64 u ∷ []) Post)
     walk C Λ fm known-mk known-ob known-nu τ₆ τ₇ σ σ′ ty₆ ty₇ =
-        qed W ((‵ (flft κ q) ⊛ ‵ (flft κ′ q′) ⊛ ‵ (flft κ₂ q₂) ⊛ ‵ ftrue) ∷ ‵ (owns (MutSlice (named 0) κ Record ∷ MutRef (named 1) κ′ (headP .T) ∷ u32 ∷ ShrSlice (named 2) κ₂ u8 ∷ u64 ∷ []) a at) ∷ []) ∵ enter ! C Λ (function τ₆ τ₇ σ σ′) (s ∷ vptr b′ o′ ∷ vint w32 l ∷ m-val ∷ vint w64 u ∷ []) _ $
+        qed W ((‵ (flft κ q) ⊛ ‵ (flft κ′ q′) ⊛ ‵ (flft κ₂ q₂) ⊛ ‵ ftrue) ∷ ‵ (owns (MutSlice (named 0) κ RowRecord ∷ MutRef (named 1) κ′ (headP .T) ∷ u32 ∷ ShrSlice (named 2) κ₂ u8 ∷ u64 ∷ []) a at) ∷ []) ∵ enter ! C Λ (function τ₆ τ₇ σ σ′) (s ∷ vptr b′ o′ ∷ vint w32 l ∷ m-val ∷ vint w64 u ∷ []) _ $
         alloc1 ! (λ l₀. alloc1 ! (λ l₁. alloc1 ! (λ l₂. alloc1 ! (λ l₃. alloc1 ! (λ l₄. alloc1 ! (λ l₅. alloc1 ! (λ l₆. alloc1 ! (λ l₇. alloc1 ! (λ l₈. alloc1 ! (λ l₉. alloc1 ! (λ l₁₀. alloc0 ! $ params1 ! $
         pass1 ! (init ! 18 refl (tt, (tt, (record { fits = room .0 }, tt)))) $ pass1 ! (init ! 16 refl (tt, tt)) $ pass1 ! (init ! 14 refl (tt, record { fits = gl })) $ pass1 ! (init ! 12 refl (tt, (tt, (record { fits = m-room .0 }, tt)))) $ pass1 ! (init ! 10 refl (tt, record { fits = gu })) $ pass0 ! $
         -- of what is owned at entry: the borrows, the message twice, and the tokens
@@ -208,8 +208,8 @@ korvezul-receive-spec 𝓤 H 𝓜 𝓖 𝓡 =
     entered 𝓤 H (tripleOf 𝓤 H (𝓖 .A) f.signature (f.spec 𝓤 H (𝓖 .A) (𝓜 .mem) (𝓡 .run)))
     (tables 𝓤 H 𝓜 𝓡 code.env .C) (tables 𝓤 H 𝓜 𝓡 code.env .Λ) #korvezul·receive code.function (code.unfolded 𝓤 H 𝓜 𝓡)
     (meets-by-walk 𝓤 H (𝓖 .A) (givenOf 𝓤 H 𝓜 𝓖) f.ended stayed (f.clauses 𝓤 H (𝓖 .A) (𝓜 .mem) (𝓡 .run)) code.function (tablesOf 𝓤 H 𝓜 (tables 𝓤 H 𝓜 𝓡 code.env))
-    (goes-gave-slice 𝓤 H (𝓖 .A) (givenOf 𝓤 H 𝓜 𝓖) 3 0 tt (plain (λ _. Record)), (goes-gave-ref 𝓤 H (𝓖 .A) (givenOf 𝓤 H 𝓜 𝓖) 3 1 tt (plain (λ _. headP .T)), (goes-none 𝓤 H (𝓖 .A) (givenOf 𝓤 H 𝓜 𝓖) 3 (λ _. u32) yes (λ κs x f. refl), (goes-none-slice 𝓤 H (𝓖 .A) (givenOf 𝓤 H 𝓜 𝓖) 3 (2 ∷ []) tt (plain (λ _. u8)) yes, (goes-none 𝓤 H (𝓖 .A) (givenOf 𝓤 H 𝓜 𝓖) 3 (λ _. u64) yes (λ κs x f. refl), tt)))))
-    (λ κs. (slice-vals, (ptr-vals, (uint-vals w32, (slice-vals, (uint-vals w64, tt)))))) (λ κs. (mut-slice-tells (named 0) (κs .0) Record, (mut-tells (named 1) (κs .1 .0) (headP .T), (uint-tells w32, (shr-slice-tells (named 2) (κs .1 .1 .0) u8, (uint-tells w64, tt))))))
+    (goes-gave-slice 𝓤 H (𝓖 .A) (givenOf 𝓤 H 𝓜 𝓖) 3 0 tt (plain (λ _. RowRecord)), (goes-gave-ref 𝓤 H (𝓖 .A) (givenOf 𝓤 H 𝓜 𝓖) 3 1 tt (plain (λ _. headP .T)), (goes-none 𝓤 H (𝓖 .A) (givenOf 𝓤 H 𝓜 𝓖) 3 (λ _. u32) yes (λ κs x f. refl), (goes-none-slice 𝓤 H (𝓖 .A) (givenOf 𝓤 H 𝓜 𝓖) 3 (2 ∷ []) tt (plain (λ _. u8)) yes, (goes-none 𝓤 H (𝓖 .A) (givenOf 𝓤 H 𝓜 𝓖) 3 (λ _. u64) yes (λ κs x f. refl), tt)))))
+    (λ κs. (slice-vals, (ptr-vals, (uint-vals w32, (slice-vals, (uint-vals w64, tt)))))) (λ κs. (mut-slice-tells (named 0) (κs .0) RowRecord, (mut-tells (named 1) (κs .1 .0) (headP .T), (uint-tells w32, (shr-slice-tells (named 2) (κs .1 .1 .0) u8, (uint-tells w64, tt))))))
     (λ κs qs bounds a g are.
     walk 𝓤 H (𝓖 .A) (givenOf 𝓤 H 𝓜 𝓖) (𝓜 .mem) (𝓡 .run) (κs .0) (κs .1 .0) (κs .1 .1 .0) (qs .0) (qs .1 .0) (qs .1 .1 .0) (a .0 .ptr .0) (a .0 .ptr .1) (a .0 .name) (a .0 .now) (a .1 .0 .ptr .0) (a .1 .0 .ptr .1) (a .1 .0 .name) (a .1 .0 .now)
     (a .1 .1 .0) (a .1 .1 .1 .0) (a .1 .1 .1 .1 .0) (are .0 .0 .1) (are .1 .1 .0 .1) (are .1 .1 .1 .0 .0 .1) (are .1 .1 .1 .1 .0 .1) _ _
@@ -217,5 +217,5 @@ korvezul-receive-spec 𝓤 H 𝓜 𝓖 𝓡 =
     (cited 𝓤 H (MakeC 𝓤 H (𝓖 .A) (𝓜 .mem) (𝓡 .run)) 𝓜 𝓡 code.env #step·receive-request mk-def.routine code.calls-step·receive-request (mk-thm.met 𝓤 H 𝓜 𝓖 𝓡))
     (cited 𝓤 H (ObeyC 𝓤 H (𝓖 .A) (𝓜 .mem) (𝓡 .run)) 𝓜 𝓡 code.env #korvezul·obey-lent ob-def.routine code.calls-korvezul·obey-lent (ob-thm.met 𝓤 H 𝓜 𝓖 𝓡))
     (cited 𝓤 H (NumberC 𝓤 H (𝓖 .A) (𝓜 .mem) (𝓡 .run)) 𝓜 𝓡 code.env #korvezul·number nu-def.routine code.calls-korvezul·answers·number (nu-thm.met 𝓤 H 𝓜 𝓖 𝓡))
-    (spell pieces.table (pointee (requestP .T .written))) (spell pieces.table (pointee (outcomeP .T .written))) (spell pieces.table (pointee (Record .written))) (spell pieces.table (pointee (headP .T .written)))
+    (spell pieces.table (pointee (requestP .T .written))) (spell pieces.table (pointee (outcomeP .T .written))) (spell pieces.table (pointee (RowRecord .written))) (spell pieces.table (pointee (headP .T .written)))
     (requestP .typed 𝓤 H (𝓖 .A) (givenOf 𝓤 H 𝓜 𝓖)) (outcomeP .typed 𝓤 H (𝓖 .A) (givenOf 𝓤 H 𝓜 𝓖))))

@@ -45,7 +45,7 @@ use Rattle.step.specs.Stepping.{rowStep, rowAfter}
 use Rattle.step.proofs.Outcome as Outcome′
 use Rattle.step.proofs.Outcome.Laws as Outcome″
 use Rattle.row.proofs.LentSlice.{slice, Mutable}
-use Rattle.row.proofs.RecordOfRow.{Record}
+use Rattle.row.proofs.RecordOfRow.{RowRecord}
 use Rattle.row.proofs.Callee.{callee-answers, token-back}
 use Rattle.row.proofs.Locals.{frees-stored}
 use Rattle.row.proofs.ByWalk.{meets-by-walk}
@@ -63,7 +63,7 @@ use Rattle.korvezul.proofs.obey_lent.Code as code
 use Rattle.korvezul.proofs.obey_lent.Code.Mir as pieces
 
 abbrev stayed : Stays (f.ended .signature .params) (f.ended .kept)
-stayed = (gave-slice (0 ∷ []) tt (plain (λ _. Record)), (stay-ref (1 ∷ []) tt (plain (λ _. headP .T)), (stay-none (λ _. requestP .T) yes, tt)))
+stayed = (gave-slice (0 ∷ []) tt (plain (λ _. RowRecord)), (stay-ref (1 ∷ []) tt (plain (λ _. headP .T)), (stay-none (λ _. requestP .T) yes, tt)))
 
 -- the contract that the proof cites
 abbrev Obey : {M : Type 1} (𝓤 : URA M) (H : Heap 𝓤) (A : Atoms 𝓤) (mem : Memory → SProp 𝓤) (run : Routine → Fun 𝓤) → Contract 𝓤
@@ -72,7 +72,7 @@ Obey 𝓤 H A mem run = tripleOf 𝓤 H A ob.signature (ob.spec 𝓤 H A mem run
 module _ {M : Type 1} (𝓤 : URA M) (H : Heap 𝓤) (A : Atoms 𝓤) (W : Given 𝓤 H A) (mem : Memory → SProp 𝓤) (run : Routine → Fun 𝓤) (κ κ′ : Lft) (q q′ : Share) (b o : ℕ) (γ : GName) (ys : List Session) (b′ o′ : ℕ) (γ′ : GName) (h : Head) (c : Request) (cv : Val) where
   -- the arguments, and their machine values
   abbrev a : Args f.signature (κ, (κ′, tt))
-  a = (slice Record γ b o ys, (reference headP γ′ b′ o′ h, (c, tt)))
+  a = (slice RowRecord γ b o ys, (reference headP γ′ b′ o′ h, (c, tt)))
 
   abbrev s : Val
   s = sliceVal (b, o) (length ys)
@@ -85,7 +85,7 @@ module _ {M : Type 1} (𝓤 : URA M) (H : Heap 𝓤) (A : Atoms 𝓤) (W : Given
 
   -- what `obey` is passed
   abbrev to-ob : Obey 𝓤 H A mem run .Ghost
-  to-ob = (((κ, tt), (q, tt), tt, (slice Record γ b o ys, (h, (c, tt))), (s ∷ [], (headP .v h ∷ [], (cv ∷ [], tt)))), tt)
+  to-ob = (((κ, tt), (q, tt), tt, (slice RowRecord γ b o ys, (h, (c, tt))), (s ∷ [], (headP .v h ∷ [], (cv ∷ [], tt)))), tt)
 
   -- what the contract says of the outcome, of a last row and of a last head
   abbrev Says : Outcome → List Session → Head → Type 0
@@ -98,16 +98,16 @@ module _ {M : Type 1} (𝓤 : URA M) (H : Heap 𝓤) (A : Atoms 𝓤) (W : Given
   head-is : (r : Outcome) (vs : List Val) → Is (outcomeP .T) r vs → Is (headP .T) (r .head) (headP .v (r .head) ∷ [])
   head-is r vs was = at-v headP (r .head) _ (LL.owed Outcome′.the-type Outcome″.the-laws r vs was .1 .0)
 
-  module _ (room : Room Record (length ys)) (c-is : Is (requestP .T) c (cv ∷ [])) where
-    goes : Is (headP .T) h (headP .v h ∷ []) → ent 𝓤 (⋆ 𝓤 H A (‵ (flft κ q) ∷ ‵ (Mutable Record κ γ b o (length ys) ys) ∷ [])) (Obey 𝓤 H A mem run .pre to-ob)
+  module _ (room : Room RowRecord (length ys)) (c-is : Is (requestP .T) c (cv ∷ [])) where
+    goes : Is (headP .T) h (headP .v h ∷ []) → ent 𝓤 (⋆ 𝓤 H A (‵ (flft κ q) ∷ ‵ (Mutable RowRecord κ γ b o (length ys) ys) ∷ [])) (Obey 𝓤 H A mem run .pre to-ob)
     goes h-is =
-        qed W (‵ (flft κ q) ∷ ‵ (Mutable Record κ γ b o (length ys) ys) ∷ []) ∵ nothing ! $ owned ! (requestP .T) (Is (requestP .T)) (requestP .makes 𝓤 H A W) c _ c-is $ fjoin ! $
+        qed W (‵ (flft κ q) ∷ ‵ (Mutable RowRecord κ γ b o (length ys) ys) ∷ []) ∵ nothing ! $ owned ! (requestP .T) (Is (requestP .T)) (requestP .makes 𝓤 H A W) c _ c-is $ fjoin ! $
         owned ! (headP .T) (Is (headP .T)) (headP .makes 𝓤 H A W) h _ h-is $ fjoin ! $ move ! (2 ∷ 0 ∷ []) $ fjoin ! $ nothing ! $ move ! (2 ∷ 0 ∷ []) $ join ! $ join ! $ frame ! $ done !
 
     exits : (w : Val) (r : Outcome) (zs : List Session) (h′ : Head) → Is (outcomeP .T) r (w ∷ []) → Says r zs h′ → length zs ≡ length ys
-        → ent 𝓤 (⋆ 𝓤 H A (‵ (Lent headP κ′ γ′ b′ o′ h′) ∷ ‵ (flft κ′ q′) ∷ ‵ (finally Record γ zs) ∷ ‵ (flft κ q) ∷ [])) (Post w)
+        → ent 𝓤 (⋆ 𝓤 H A (‵ (Lent headP κ′ γ′ b′ o′ h′) ∷ ‵ (flft κ′ q′) ∷ ‵ (finally RowRecord γ zs) ∷ ‵ (flft κ q) ∷ [])) (Post w)
     exits w r zs h′ is e len =
-        qed W (‵ (Lent headP κ′ γ′ b′ o′ h′) ∷ ‵ (flft κ′ q′) ∷ ‵ (finally Record γ zs) ∷ ‵ (flft κ q) ∷ []) ∵
+        qed W (‵ (Lent headP κ′ γ′ b′ o′ h′) ∷ ‵ (flft κ′ q′) ∷ ‵ (finally RowRecord γ zs) ∷ ‵ (flft κ q) ∷ []) ∵
         suffices ! _ (ends-at 𝓤 H A f.ended stayed (f.clauses 𝓤 H A mem run) W (((κ, (κ′, tt)), (q, (q′, tt)), tt, a, at), tt) w r (zs, (h′, (tt, tt))) (len, (tt, (tt, tt)))) $ says ! e $
         nothing ! $ move ! (2 ∷ 0 ∷ []) $ join ! $ move ! (3 ∷ 0 ∷ []) $ join ! $ frame ! $
         nothing ! $ owned ! (requestP .T) (Is (requestP .T)) (requestP .makes 𝓤 H A W) c _ c-is $ fjoin ! $ move ! (1 ∷ 0 ∷ []) $ fjoin ! $ move ! (1 ∷ 0 ∷ []) $ fjoin ! $ frame ! $
@@ -117,7 +117,7 @@ module _ {M : Type 1} (𝓤 : URA M) (H : Heap 𝓤) (A : Atoms 𝓤) (W : Given
     module _ (C : Calls 𝓤 H) (Λ : Loops 𝓤 H) (fm : FmC 𝓤 H (W .laws) C) (known : Triple 𝓤 (C #row·obey) (Obey 𝓤 H A mem run)) (l₀ l₁ l₂ l₃ l₄ l₅ l₆ l₇ : ℕ) (τ₃ τ₇ : Ty) (ν₄ : Sym) (τs₄ : Tys) (d₁ : ℕ) (f₁ : fieldAt zero τs₄ 1 ≡ some (τ₇, d₁))
         (ty₇ : (x : Head) (w : Val) → Is (headP .T) x (w ∷ []) → Holds (hasTy τ₇ w) × WT w) (ty₄ : (x : Outcome) (w : Val) → Is (outcomeP .T) x (w ∷ []) → Holds (hasTy (tyStruct ν₄ τs₄) w) × WT w) where
       abbrev τ₁ : Ty
-      τ₁ = sliceTy (tyRef (named 0) mut (pointee (Record .written)))
+      τ₁ = sliceTy (tyRef (named 0) mut (pointee (RowRecord .written)))
 
       abbrev τ₂ : Ty
       τ₂ = tyRef (named 1) mut (pointee (headP .T .written))
@@ -126,17 +126,17 @@ module _ {M : Type 1} (𝓤 : URA M) (H : Heap 𝓤) (A : Atoms 𝓤) (W : Given
       τ₄ = tyStruct ν₄ τs₄
 
       abbrev τ₅ : Ty
-      τ₅ = tyRef erased mut (pointee (Record .written))
+      τ₅ = tyRef erased mut (pointee (RowRecord .written))
 
       abbrev τ₆ : Ty
-      τ₆ = sliceTy (tyRef erased mut (pointee (Record .written)))
+      τ₆ = sliceTy (tyRef erased mut (pointee (RowRecord .written)))
 
       abbrev En : Env 𝓤 H
       En = (τ₄, l₀) ∷ (τ₁, l₁) ∷ (τ₂, l₂) ∷ (τ₃, l₃) ∷ (τ₄, l₄) ∷ (τ₅, l₅) ∷ (τ₆, l₆) ∷ (τ₇, l₇) ∷ []
 
       -- what is held where the body begins
       abbrev Held : List (Item 𝓤)
-      Held = ‵ (Lent headP κ′ γ′ b′ o′ h) ∷ ‵ (flft κ′ q′) ∷ ‵ (Mutable Record κ γ b o (length ys) ys) ∷ ‵ (flft κ q) ∷ ‵ ftrue ∷ ‵ (froom τ₇ l₇ 0) ∷ ‵ (fdies τ₇ l₇) ∷ ‵ (froom τ₆ l₆ 0) ∷ ‵ (fdies τ₆ l₆) ∷ ‵ (froom τ₅ l₅ 0) ∷ ‵ (fdies τ₅ l₅) ∷ ‵ (froom τ₄ l₄ 0) ∷ ‵ (fdies τ₄ l₄)
+      Held = ‵ (Lent headP κ′ γ′ b′ o′ h) ∷ ‵ (flft κ′ q′) ∷ ‵ (Mutable RowRecord κ γ b o (length ys) ys) ∷ ‵ (flft κ q) ∷ ‵ ftrue ∷ ‵ (froom τ₇ l₇ 0) ∷ ‵ (fdies τ₇ l₇) ∷ ‵ (froom τ₆ l₆ 0) ∷ ‵ (fdies τ₆ l₆) ∷ ‵ (froom τ₅ l₅ 0) ∷ ‵ (fdies τ₅ l₅) ∷ ‵ (froom τ₄ l₄ 0) ∷ ‵ (fdies τ₄ l₄)
           ∷ ‵ (fat fullShare τ₃ l₃ 0 cv) ∷ ‵ (fdies τ₃ l₃) ∷ ‵ (fat fullShare τ₂ l₂ 0 (vptr b′ o′)) ∷ ‵ (fdies τ₂ l₂) ∷ ‵ (fat fullShare τ₁ l₁ 0 s) ∷ ‵ (fdies τ₁ l₁) ∷ ‵ (froom τ₄ l₀ 0) ∷ ‵ (fdies τ₄ l₀) ∷ []
 
       body : ent 𝓤 (⋆ 𝓤 H A Held) (Wp 𝓤 H C Λ En pieces.t-1 (atReturn 𝓤 H En Post))
@@ -161,7 +161,7 @@ module _ {M : Type 1} (𝓤 : URA M) (H : Heap 𝓤) (A : Atoms 𝓤) (W : Given
     walk : (C : Calls 𝓤 H) (Λ : Loops 𝓤 H) → FmC 𝓤 H (W .laws) C → Triple 𝓤 (C #row·obey) (Obey 𝓤 H A mem run)
         → ent 𝓤 (onEntry 𝓤 H A f.signature (κ, (κ′, tt)) (q, (q′, tt)) a at) (WpFn 𝓤 H C Λ code.function (s ∷ vptr b′ o′ ∷ cv ∷ []) Post)
     walk C Λ fm known =
-        qed W ((‵ (flft κ q) ⊛ ‵ (flft κ′ q′) ⊛ ‵ ftrue) ∷ ‵ (owns (MutSlice (named 0) κ Record ∷ MutRef (named 1) κ′ (headP .T) ∷ requestP .T ∷ []) a at) ∷ []) ∵ enter ! C Λ code.function (s ∷ vptr b′ o′ ∷ cv ∷ []) _ $
+        qed W ((‵ (flft κ q) ⊛ ‵ (flft κ′ q′) ⊛ ‵ ftrue) ∷ ‵ (owns (MutSlice (named 0) κ RowRecord ∷ MutRef (named 1) κ′ (headP .T) ∷ requestP .T ∷ []) a at) ∷ []) ∵ enter ! C Λ code.function (s ∷ vptr b′ o′ ∷ cv ∷ []) _ $
         alloc1 ! (λ l₀. alloc1 ! (λ l₁. alloc1 ! (λ l₂. alloc1 ! (λ l₃. alloc1 ! (λ l₄. alloc1 ! (λ l₅. alloc1 ! (λ l₆. alloc1 ! (λ l₇. alloc0 ! $ params1 ! $
         pass1 ! (init ! 12 refl (tt, (tt, (record { fits = room .0 }, tt)))) $ pass1 ! (init ! 10 refl (tt, tt)) $ pass1 ! (init ! 8 refl (requestP .typed 𝓤 H A W c _ c-is)) $ pass0 ! $
         -- of what is owned at entry: the two borrows and their tokens
@@ -174,8 +174,8 @@ obey-lent-spec 𝓤 H 𝓜 𝓖 𝓡 =
     entered 𝓤 H (tripleOf 𝓤 H (𝓖 .A) f.signature (f.spec 𝓤 H (𝓖 .A) (𝓜 .mem) (𝓡 .run)))
     (tables 𝓤 H 𝓜 𝓡 code.env .C) (tables 𝓤 H 𝓜 𝓡 code.env .Λ) #korvezul·obey-lent code.function (code.unfolded 𝓤 H 𝓜 𝓡)
     (meets-by-walk 𝓤 H (𝓖 .A) (givenOf 𝓤 H 𝓜 𝓖) f.ended stayed (f.clauses 𝓤 H (𝓖 .A) (𝓜 .mem) (𝓡 .run)) code.function (tablesOf 𝓤 H 𝓜 (tables 𝓤 H 𝓜 𝓡 code.env))
-    (goes-gave-slice 𝓤 H (𝓖 .A) (givenOf 𝓤 H 𝓜 𝓖) 2 0 tt (plain (λ _. Record)), (goes-ref 𝓤 H (𝓖 .A) (givenOf 𝓤 H 𝓜 𝓖) 2 1 tt (plain (λ _. headP .T)), (goes-none 𝓤 H (𝓖 .A) (givenOf 𝓤 H 𝓜 𝓖) 2 (λ _. requestP .T) yes (λ κs x f. refl), tt)))
-    (λ κs. (slice-vals, (ptr-vals, ((λ x. requestP .v x ∷ []), tt)))) (λ κs. (mut-slice-tells (named 0) (κs .0) Record, (mut-tells (named 1) (κs .1 .0) (headP .T), (requestP .tells, tt))))
+    (goes-gave-slice 𝓤 H (𝓖 .A) (givenOf 𝓤 H 𝓜 𝓖) 2 0 tt (plain (λ _. RowRecord)), (goes-ref 𝓤 H (𝓖 .A) (givenOf 𝓤 H 𝓜 𝓖) 2 1 tt (plain (λ _. headP .T)), (goes-none 𝓤 H (𝓖 .A) (givenOf 𝓤 H 𝓜 𝓖) 2 (λ _. requestP .T) yes (λ κs x f. refl), tt)))
+    (λ κs. (slice-vals, (ptr-vals, ((λ x. requestP .v x ∷ []), tt)))) (λ κs. (mut-slice-tells (named 0) (κs .0) RowRecord, (mut-tells (named 1) (κs .1 .0) (headP .T), (requestP .tells, tt))))
     (λ κs qs bounds a g are.
     walk 𝓤 H (𝓖 .A) (givenOf 𝓤 H 𝓜 𝓖) (𝓜 .mem) (𝓡 .run) (κs .0) (κs .1 .0) (qs .0) (qs .1 .0) (a .0 .ptr .0) (a .0 .ptr .1) (a .0 .name) (a .0 .now) (a .1 .0 .ptr .0) (a .1 .0 .ptr .1) (a .1 .0 .name) (a .1 .0 .now) (a .1 .1 .0) (requestP .v (a .1 .1 .0)) (are .0 .0 .1) (are .1 .1 .0) _ _
     (fmOf 𝓤 H (givenOf 𝓤 H 𝓜 𝓖 .laws) (tablesOf 𝓤 H 𝓜 (tables 𝓤 H 𝓜 𝓡 code.env)))

@@ -48,7 +48,7 @@ use Rattle.step.specs.Stepping.{rowStep, rowAfter}
 use Rattle.step.proofs.Outcome as Outcome′
 use Rattle.step.proofs.Outcome.Laws as Outcome″
 use Rattle.row.proofs.LentSlice.{slice, Mutable}
-use Rattle.row.proofs.RecordOfRow.{Record}
+use Rattle.row.proofs.RecordOfRow.{RowRecord}
 use Rattle.row.proofs.Callee.{callee-answers, token-back}
 use Rattle.row.proofs.Locals.{frees-stored}
 use Rattle.row.proofs.ByWalk.{meets-by-walk}
@@ -101,10 +101,10 @@ played-val zs o = vstruct (vcons (own-val zs (o .head)) (vcons (outcomeP .v o) v
 head-is : (o : Outcome) (vs : List Val) → Is (outcomeP .T) o vs → Is (headP .T) (o .head) (headP .v (o .head) ∷ [])
 head-is o vs was = at-v headP (o .head) _ (LL.owed Outcome′.the-type Outcome″.the-laws o vs was .1 .0)
 
-own-is : (zs : List Session) (h : Head) → Is (Array Record 64) zs (rows-val zs ∷ []) → Is (headP .T) h (headP .v h ∷ []) → Is (ownP .T) (own-of zs h) (own-val zs h ∷ [])
+own-is : (zs : List Session) (h : Head) → Is (Array RowRecord 64) zs (rows-val zs ∷ []) → Is (headP .T) h (headP .v h ∷ []) → Is (ownP .T) (own-of zs h) (own-val zs h ∷ [])
 own-is zs h is h-is = ((rows-val zs ∷ [], (headP .v h ∷ [], tt)), (refl, (are-rows 64 zs is, (h-is, tt))))
 
-played-is : (zs : List Session) (o : Outcome) (vs : List Val) → Is (Array Record 64) zs (rows-val zs ∷ []) → Is (outcomeP .T) o vs → Is (playedP .T) (played-of zs o) (played-val zs o ∷ [])
+played-is : (zs : List Session) (o : Outcome) (vs : List Val) → Is (Array RowRecord 64) zs (rows-val zs ∷ []) → Is (outcomeP .T) o vs → Is (playedP .T) (played-of zs o) (played-val zs o ∷ [])
 played-is zs o vs is was = ((own-val zs (o .head) ∷ [], (outcomeP .v o ∷ [], tt)), (refl, (own-is zs (o .head) is (head-is o vs was), (at-v outcomeP o vs was, tt))))
 
 abbrev Says : List Session → Head → Request → Played → Type 0
@@ -132,11 +132,11 @@ module _ {M : Type 1} (𝓤 : URA M) (H : Heap 𝓤) (A : Atoms 𝓤) (W : Given
 
   -- the call of `obey`: the array at l, lent for the lifetime ν under the name γ
   abbrev to-g : ℕ → ℕ → GName → Obey 𝓤 H A mem run .Ghost
-  to-g ν l γ = (((ν ∷ [], tt), (fullShare, tt), tt, (slice Record γ l 0 ys, (h, (c, tt))), (sliceVal (l, 0) 64 ∷ [], (hv ∷ [], (cv ∷ [], tt)))), tt)
+  to-g ν l γ = (((ν ∷ [], tt), (fullShare, tt), tt, (slice RowRecord γ l 0 ys, (h, (c, tt))), (sliceVal (l, 0) 64 ∷ [], (hv ∷ [], (cv ∷ [], tt)))), tt)
 
   module _ (d-is : Is (ownP .T) (own-of ys h) (dv ∷ [])) (c-is : Is (requestP .T) c (cv ∷ [])) where
     -- what whoever holds the table knows of its fields
-    rows-is : Is (Array Record 64) ys (rows-val ys ∷ [])
+    rows-is : Is (Array RowRecord 64) ys (rows-val ys ∷ [])
     rows-is = rows-are 64 ys _ (LL.owed OwnTable′.the-type OwnTable″.the-laws (own-of ys h) _ d-is .0)
 
     h-is : Is (headP .T) h (hv ∷ [])
@@ -145,12 +145,12 @@ module _ {M : Type 1} (𝓤 : URA M) (H : Heap 𝓤) (A : Atoms 𝓤) (W : Given
     of-64 : length ys ≡ 64
     of-64 = rows-is .1 .0 .1
 
-    room : Room Record (length ys)
+    room : Room RowRecord (length ys)
     room = (omega (arith, of-64), omega (arith, of-64))
 
-    goes : (ν l : ℕ) (γ : GName) → ent 𝓤 (⋆ 𝓤 H A (‵ (flft (ν ∷ []) fullShare) ∷ ‵ (Mutable Record (ν ∷ []) γ l 0 64 ys) ∷ [])) (Obey 𝓤 H A mem run .pre (to-g ν l γ))
+    goes : (ν l : ℕ) (γ : GName) → ent 𝓤 (⋆ 𝓤 H A (‵ (flft (ν ∷ []) fullShare) ∷ ‵ (Mutable RowRecord (ν ∷ []) γ l 0 64 ys) ∷ [])) (Obey 𝓤 H A mem run .pre (to-g ν l γ))
     goes ν l γ =
-        qed W (‵ (flft (ν ∷ []) fullShare) ∷ ‵ (Mutable Record (ν ∷ []) γ l 0 64 ys) ∷ []) ∵ nothing ! $ owned ! (requestP .T) (Is (requestP .T)) (requestP .makes 𝓤 H A W) c _ c-is $ fjoin ! $ owned ! (headP .T) (Is (headP .T)) (headP .makes 𝓤 H A W) h _ h-is $ fjoin ! $
+        qed W (‵ (flft (ν ∷ []) fullShare) ∷ ‵ (Mutable RowRecord (ν ∷ []) γ l 0 64 ys) ∷ []) ∵ nothing ! $ owned ! (requestP .T) (Is (requestP .T)) (requestP .makes 𝓤 H A W) c _ c-is $ fjoin ! $ owned ! (headP .T) (Is (headP .T)) (headP .makes 𝓤 H A W) h _ h-is $ fjoin ! $
         move ! (2 ∷ 0 ∷ []) $ fjoin ! $ nothing ! $ move ! (2 ∷ 0 ∷ []) $ join ! $ join ! $ frame ! $ done !
 
     exits : (w : Val) (p : Played) → Is (playedP .T) p (w ∷ []) → Says ys h c p → ent 𝓤 (⋆ 𝓤 H A (‵ ftrue ∷ [])) (Post w)
@@ -164,7 +164,7 @@ module _ {M : Type 1} (𝓤 : URA M) (H : Heap 𝓤) (A : Atoms 𝓤) (W : Given
     module _ (C : Calls 𝓤 H) (Λ : Loops 𝓤 H) (fm : FmC 𝓤 H (W .laws) C) (known : Triple 𝓤 (C #row·obey) (Obey 𝓤 H A mem run)) (l₀ l₁ l₂ l₃ l₄ l₅ l₆ l₇ l₈ : ℕ)
         (τ₀ τ₂ τ₃ τ₅ ρ σ τh : Ty) (ν₁ ν₄ : Sym) (τs₁ τs₄ : Tys) (d₁ d₄ : ℕ)
         (is₃ : τ₃ ≡ tyArray Session″.mir 64) (f₀ : fieldAt zero τs₁ 0 ≡ some (τ₃, 0)) (f₁ : fieldAt zero τs₁ 1 ≡ some (τh, d₁)) (f₄ : fieldAt zero τs₄ 1 ≡ some (τh, d₄))
-        (ty₀ : (x : Played) (w : Val) → Is (playedP .T) x (w ∷ []) → Holds (hasTy τ₀ w) × WT w) (ty₃ : (x : List Session) → Is (Array Record 64) x (rows-val x ∷ []) → Holds (hasTy τ₃ (rows-val x)) × WT (rows-val x)) (ty₄ : (x : Outcome) (w : Val) → Is (outcomeP .T) x (w ∷ []) → Holds (hasTy (tyStruct ν₄ τs₄) w) × WT w) (ty₅ : (x : OwnTable) (w : Val) → Is (ownP .T) x (w ∷ []) → Holds (hasTy τ₅ w) × WT w) where
+        (ty₀ : (x : Played) (w : Val) → Is (playedP .T) x (w ∷ []) → Holds (hasTy τ₀ w) × WT w) (ty₃ : (x : List Session) → Is (Array RowRecord 64) x (rows-val x ∷ []) → Holds (hasTy τ₃ (rows-val x)) × WT (rows-val x)) (ty₄ : (x : Outcome) (w : Val) → Is (outcomeP .T) x (w ∷ []) → Holds (hasTy (tyStruct ν₄ τs₄) w) × WT w) (ty₅ : (x : OwnTable) (w : Val) → Is (ownP .T) x (w ∷ []) → Holds (hasTy τ₅ w) × WT w) where
       -- the types of the others
       abbrev τ₁ : Ty
       τ₁ = tyStruct ν₁ τs₁
@@ -194,7 +194,7 @@ module _ {M : Type 1} (𝓤 : URA M) (H : Heap 𝓤) (A : Atoms 𝓤) (W : Given
           assigns ! (agg ! (and-then ! (load ! (from ! (stop !)) (look ! 4 refl)) (and-then ! (lit ! tt) (no-more !)))) (from ! (stop !)) (init ! 2 refl (tt, (tt, (record { fits = lit< tt }, tt)))) $
           -- the array is lent for a lifetime ν of the call
           lft-new ! tt (λ ν. move ! (11 ∷ []) $ rewrite ! 0 (λ (τ : Ty). ‵ (fat fullShare τ l₃ 0 (rows-val ys))) is₃ refl $ lent-out ! tt (ν ∷ []) 64 l₃ ys rows-is room (λ γ.
-          rewrite ! 0 (λ (n : ℕ). ‵ (Mutable Record (ν ∷ []) γ l₃ 0 n ys)) of-64 refl $ rewrite ! 1 (λ (n : ℕ). ‵ (flent (ν ∷ []) (Held Record n l₃ 0 γ))) of-64 refl $
+          rewrite ! 0 (λ (n : ℕ). ‵ (Mutable RowRecord (ν ∷ []) γ l₃ 0 n ys)) of-64 refl $ rewrite ! 1 (λ (n : ℕ). ‵ (flent (ν ∷ []) (Held RowRecord n l₃ 0 γ))) of-64 refl $
           move ! (2 ∷ 0 ∷ []) $ use2 W (raw (Obey 𝓤 H A mem run .pre (to-g ν l₃ γ))) (goes ν l₃ γ) $
           -- [what `obey` asks; the lender's part; _8; …; _4; …; that _3 dies; _2; …; _1; …; room for _0; …]
           callee-answers ! fm g.ended (g.clauses 𝓤 H A mem run) known (to-g ν l₃ γ) (and-then ! (load ! (from ! (stop !)) (look ! 4 refl)) (and-then ! (load ! (from ! (fld ! f₁ (stop !))) (look-in ! 15 (sub ! 1 f₁ (whole !)))) (and-then ! (load ! (from ! (stop !)) (look ! 13 refl)) (no-more !))))
@@ -219,7 +219,7 @@ module _ {M : Type 1} (𝓤 : URA M) (H : Heap 𝓤) (A : Atoms 𝓤) (W : Given
         pass1 ! (init ! 14 refl (ownP .typed 𝓤 H A W (own-of ys h) _ d-is)) $ pass1 ! (init ! 12 refl (requestP .typed 𝓤 H A W c _ c-is)) $ pass0 ! $
         -- what the parameters own is facts, and is made anew at the exit
         move ! (18 ∷ []) $ drop ! $ move ! (18 ∷ []) $ drop ! $
-        by ! (body C Λ fm known l₀ l₁ l₂ l₃ l₄ l₅ l₆ l₇ l₈ (spell pieces.table (pointee (playedP .T .written))) (spell pieces.table (pointee (requestP .T .written))) (tyArray (spell pieces.table (pointee (Record .written))) 64) (spell pieces.table (pointee (ownP .T .written))) (tyArray (pointee (Record .written)) 64) (pointee (Record .written)) (spell pieces.table (pointee (headP .T .written)))
+        by ! (body C Λ fm known l₀ l₁ l₂ l₃ l₄ l₅ l₆ l₇ l₈ (spell pieces.table (pointee (playedP .T .written))) (spell pieces.table (pointee (requestP .T .written))) (tyArray (spell pieces.table (pointee (RowRecord .written))) 64) (spell pieces.table (pointee (ownP .T .written))) (tyArray (pointee (RowRecord .written)) 64) (pointee (RowRecord .written)) (spell pieces.table (pointee (headP .T .written)))
         (name-of (spell pieces.table (pointee (ownP .T .written)))) (name-of (spell pieces.table (pointee (outcomeP .T .written)))) (fields-of (spell pieces.table (pointee (ownP .T .written)))) (fields-of (spell pieces.table (pointee (outcomeP .T .written)))) 11264 176
         refl refl refl refl (playedP .typed 𝓤 H A W) (rows-typed 𝓤 H A W 64) (outcomeP .typed 𝓤 H A W) (ownP .typed 𝓤 H A W)))))))))))
 

@@ -52,7 +52,7 @@ use Rattle.scan.proofs.Progress.Laws as Progress″
 use Rattle.row.proofs.LentSlice.{slice, Shared, Mutable}
 use Rattle.row.proofs.LentOn.{lent-mutable, mutable-back}
 use Rattle.row.proofs.OneElement.{element-shown, element-read}
-use Rattle.row.proofs.RecordOfRow.{Record, value, copied, offset-fits, offset-is}
+use Rattle.row.proofs.RecordOfRow.{RowRecord, value, copied, offset-fits, offset-is}
 use Rattle.row.proofs.Callee.{callee-answers, token-back}
 use Rattle.row.proofs.Branches.{turns-while, held-is, failed-is}
 use Rattle.row.proofs.Locals.{frees-stored, frees-unused}
@@ -73,7 +73,7 @@ use Rattle.row.proofs.pass_over.Code as code
 use Rattle.row.proofs.pass_over.Code.Mir as pieces
 
 abbrev stayed : Stays (f.ended .signature .params) (f.ended .kept)
-stayed = (stay-none-slice (0 ∷ []) tt (plain (λ _. Record)) yes, (stay-slice (1 ∷ []) tt (plain (λ _. u64)), (stay-none (λ _. progressP .T) yes, tt)))
+stayed = (stay-none-slice (0 ∷ []) tt (plain (λ _. RowRecord)) yes, (stay-slice (1 ∷ []) tt (plain (λ _. u64)), (stay-none (λ _. progressP .T) yes, tt)))
 
 module _ {M : Type 1} (𝓤 : URA M) (H : Heap 𝓤) (A : Atoms 𝓤) (mem : Memory → SProp 𝓤) (run : Routine → Fun 𝓤) where
   -- the contracts that the proof cites
@@ -147,7 +147,7 @@ module _ (ys : List Session) (z : Progress) (os : List ℕ) where
   some-place : (x : At) (t : Bool) → t ≡ moreOf (x .acc) (x .i) (length ys) → Holds t → Holds (not (eqb (x .acc .rest) 0))
   some-place x t e h = both (not (eqb (x .acc .rest) 0)) (ltb (x .i) (length ys)) (subst Holds e h) .0
 
-  one-more : (x : At) → Room Record (length ys) → x .i < length ys → Fits w64 (x .i + 1)
+  one-more : (x : At) → Room RowRecord (length ys) → x .i < length ys → Fits w64 (x .i + 1)
   one-more x room l = record { fits = omega (arith, l, room .0) }
 
   falls : (x : At) → x .i < length ys → length ys - (x .i + 1) < length ys - x .i
@@ -176,7 +176,7 @@ module _ (ys : List Session) (z : Progress) (os : List ℕ) where
 module _ {M : Type 1} (𝓤 : URA M) (H : Heap 𝓤) (A : Atoms 𝓤) (W : Given 𝓤 H A) (mem : Memory → SProp 𝓤) (run : Routine → Fun 𝓤) (κ κ₁ : Lft) (q q₁ : Share) (b o : ℕ) (γ : GName) (ys : List Session) (b₁ o₁ : ℕ) (γ₁ : GName) (os : List ℕ) (z : Progress) where
   -- the arguments, and their machine values
   abbrev a : Args f.signature (κ, (κ₁, tt))
-  a = (slice Record γ b o ys, (slice u64 γ₁ b₁ o₁ os, (z, tt)))
+  a = (slice RowRecord γ b o ys, (slice u64 γ₁ b₁ o₁ os, (z, tt)))
 
   abbrev s : Val
   s = sliceVal (b, o) (length ys)
@@ -197,22 +197,22 @@ module _ {M : Type 1} (𝓤 : URA M) (H : Heap 𝓤) (A : Atoms 𝓤) (W : Given
   abbrev to-ti : ℕ → GName → List ℕ → Progress → ℕ → Session → TakeC 𝓤 H A mem run .Ghost
   to-ti ν δ ps c i r = (((ν ∷ [], tt), (fullShare, tt), tt, (slice u64 δ b₁ o₁ ps, (c, (i, (r, tt)))), (sliceVal (b₁, o₁) (length ps) ∷ [], (progressP .v c ∷ [], (vint w64 i ∷ [], (value r ∷ [], tt))))), tt)
 
-  module _ (room : Room Record (length ys)) (p-room : Room u64 (length os)) (z-is : Is (progressP .T) z (progressP .v z ∷ [])) where
+  module _ (room : Room RowRecord (length ys)) (p-room : Room u64 (length os)) (z-is : Is (progressP .T) z (progressP .v z ∷ [])) where
     -- what each callee asks
     goes-mo : (c : Progress) (i : ℕ) → Is (progressP .T) c (progressP .v c ∷ []) → i < 2 ^ 64 → ent 𝓤 (emp 𝓤) (MoreC 𝓤 H A mem run .pre (to-mo c i))
     goes-mo c i is gi = qed W [] ∵ nothing ! $ owned ! usize (Is usize) (uint-makes 𝓤 H A W w64) (length ys) _ (refl, room .0) $ fjoin ! $ owned ! usize (Is usize) (uint-makes 𝓤 H A W w64) i _ (refl, gi) $ fjoin ! $
         owned ! (progressP .T) (Is (progressP .T)) (progressP .makes 𝓤 H A W) c _ is $ fjoin ! $ nothing ! $ join ! $ frame ! $ done !
 
-    goes-ti : (ν : ℕ) (δ : GName) (ps : List ℕ) (c : Progress) (i : ℕ) (r : Session) → Is (progressP .T) c (progressP .v c ∷ []) → i < 2 ^ 64 → Is Record r (value r ∷ [])
+    goes-ti : (ν : ℕ) (δ : GName) (ps : List ℕ) (c : Progress) (i : ℕ) (r : Session) → Is (progressP .T) c (progressP .v c ∷ []) → i < 2 ^ 64 → Is RowRecord r (value r ∷ [])
         → ent 𝓤 (⋆ 𝓤 H A (‵ (flft (ν ∷ []) fullShare) ∷ ‵ (Mutable u64 (ν ∷ []) δ b₁ o₁ (length ps) ps) ∷ [])) (TakeC 𝓤 H A mem run .pre (to-ti ν δ ps c i r))
     goes-ti ν δ ps c i r is gi r-is =
-        qed W (‵ (flft (ν ∷ []) fullShare) ∷ ‵ (Mutable u64 (ν ∷ []) δ b₁ o₁ (length ps) ps) ∷ []) ∵ nothing ! $ owned ! Record (Is Record) (sessionP .makes 𝓤 H A W) r _ r-is $ fjoin ! $ owned ! usize (Is usize) (uint-makes 𝓤 H A W w64) i _ (refl, gi) $ fjoin ! $
+        qed W (‵ (flft (ν ∷ []) fullShare) ∷ ‵ (Mutable u64 (ν ∷ []) δ b₁ o₁ (length ps) ps) ∷ []) ∵ nothing ! $ owned ! RowRecord (Is RowRecord) (sessionP .makes 𝓤 H A W) r _ r-is $ fjoin ! $ owned ! usize (Is usize) (uint-makes 𝓤 H A W w64) i _ (refl, gi) $ fjoin ! $
         owned ! (progressP .T) (Is (progressP .T)) (progressP .makes 𝓤 H A W) c _ is $ fjoin ! $ move ! (2 ∷ 0 ∷ []) $ fjoin ! $ nothing ! $ move ! (2 ∷ 0 ∷ []) $ join ! $ join ! $ frame ! $ done !
 
     exits : (c : Progress) (ps : List ℕ) → Is (progressP .T) c (progressP .v c ∷ []) → length ps ≡ length os → at-pass c ps ≡ passOver 0 (at-pass z os) ys
-        → ent 𝓤 (⋆ 𝓤 H A (‵ (Shared Record κ γ b o (length ys) ys) ∷ ‵ (flft κ q) ∷ ‵ (Mutable u64 κ₁ γ₁ b₁ o₁ (length os) ps) ∷ ‵ (flft κ₁ q₁) ∷ [])) (Post (progressP .v c))
+        → ent 𝓤 (⋆ 𝓤 H A (‵ (Shared RowRecord κ γ b o (length ys) ys) ∷ ‵ (flft κ q) ∷ ‵ (Mutable u64 κ₁ γ₁ b₁ o₁ (length os) ps) ∷ ‵ (flft κ₁ q₁) ∷ [])) (Post (progressP .v c))
     exits c ps is len e =
-        qed W (‵ (Shared Record κ γ b o (length ys) ys) ∷ ‵ (flft κ q) ∷ ‵ (Mutable u64 κ₁ γ₁ b₁ o₁ (length os) ps) ∷ ‵ (flft κ₁ q₁) ∷ []) ∵
+        qed W (‵ (Shared RowRecord κ γ b o (length ys) ys) ∷ ‵ (flft κ q) ∷ ‵ (Mutable u64 κ₁ γ₁ b₁ o₁ (length os) ps) ∷ ‵ (flft κ₁ q₁) ∷ []) ∵
         suffices ! _ (ends-at 𝓤 H A f.ended stayed (f.clauses 𝓤 H A mem run) W (((κ, (κ₁, tt)), (q, (q₁, tt)), tt, a, at), tt) (progressP .v c) c (tt, (ps, (tt, tt))) (tt, (len, (tt, tt)))) $ says ! e $
         nothing ! $ move ! (4 ∷ 0 ∷ []) $ join ! $ move ! (2 ∷ 0 ∷ []) $ join ! $ frame ! $
         nothing ! $ owned ! (progressP .T) (Is (progressP .T)) (progressP .makes 𝓤 H A W) z _ z-is $ fjoin ! $ move ! (2 ∷ 0 ∷ []) $ fjoin ! $ move ! (1 ∷ 0 ∷ []) $ fjoin ! $ frame ! $
@@ -231,13 +231,13 @@ module _ {M : Type 1} (𝓤 : URA M) (H : Heap 𝓤) (A : Atoms 𝓤) (W : Given
         ptr-ty = spell pieces.table tyPtr
 
         abbrev rec-ty : Ty
-        rec-ty = spell pieces.table (pointee (Record .written))
+        rec-ty = spell pieces.table (pointee (RowRecord .written))
 
         abbrev acc-ty : Ty
         acc-ty = spell pieces.table (pointee (progressP .T .written))
 
         abbrev row-ty : Ty
-        row-ty = spell pieces.table (sliceTy (tyRef (named 0) imm (pointee (Record .written))))
+        row-ty = spell pieces.table (sliceTy (tyRef (named 0) imm (pointee (RowRecord .written))))
 
         abbrev pairs-ty : Ty
         pairs-ty = spell pieces.table (sliceTy (tyRef (named 1) mut (pointee (u64 .written))))
@@ -256,7 +256,7 @@ module _ {M : Type 1} (𝓤 : URA M) (H : Heap 𝓤) (A : Atoms 𝓤) (W : Given
 
         -- what is held where a turn begins
         abbrev I : X → List (Item 𝓤)
-        I x = ‵ (Shared Record κ γ b o (length ys) ys) ∷ ‵ (flft κ q) ∷ ‵ (Mutable u64 κ₁ γ₁ b₁ o₁ (length os) (x .pairs)) ∷ ‵ (flft κ₁ q₁) ∷ ‵ ftrue
+        I x = ‵ (Shared RowRecord κ γ b o (length ys) ys) ∷ ‵ (flft κ q) ∷ ‵ (Mutable u64 κ₁ γ₁ b₁ o₁ (length os) (x .pairs)) ∷ ‵ (flft κ₁ q₁) ∷ ‵ ftrue
             ∷ ‵ (froom pairs-ty′ l₁₂ 0) ∷ ‵ (fdies pairs-ty′ l₁₂) ∷ ‵ (froom ref-ty l₁₁ 0) ∷ ‵ (fdies ref-ty l₁₁) ∷ ‵ (froom rec-ty l₁₀ 0) ∷ ‵ (fdies rec-ty l₁₀) ∷ ‵ (froom ptr-ty l₉ 0) ∷ ‵ (fdies ptr-ty l₉) ∷ ‵ (froom word l₈ 0) ∷ ‵ (fdies word l₈) ∷ ‵ (froom bool-ty l₇ 0) ∷ ‵ (fdies bool-ty l₇)
             ∷ ‵ (froom rec-ty l₆ 0) ∷ ‵ (fdies rec-ty l₆) ∷ ‵ (fat fullShare word l₅ 0 (vint w64 (x .i))) ∷ ‵ (fdies word l₅) ∷ ‵ (fat fullShare acc-ty l₄ 0 (progressP .v (x .acc))) ∷ ‵ (fdies acc-ty l₄)
             ∷ ‵ (fat fullShare acc-ty l₃ 0 (progressP .v z)) ∷ ‵ (fdies acc-ty l₃) ∷ ‵ (fat fullShare pairs-ty l₂ 0 p) ∷ ‵ (fdies pairs-ty l₂) ∷ ‵ (fat fullShare row-ty l₁ 0 s) ∷ ‵ (fdies row-ty l₁) ∷ ‵ (froom acc-ty l₀ 0) ∷ ‵ (fdies acc-ty l₀) ∷ []
@@ -306,7 +306,7 @@ module _ {M : Type 1} (𝓤 : URA M) (H : Heap 𝓤) (A : Atoms 𝓤) (W : Given
 
       walk : ent 𝓤 (onEntry 𝓤 H A f.signature (κ, (κ₁, tt)) (q, (q₁, tt)) a at) (WpFn 𝓤 H (𝓣 .C) (𝓣 .Λ) code.function (s ∷ p ∷ progressP .v z ∷ []) Post)
       walk =
-          qed W ((‵ (flft κ q) ⊛ ‵ (flft κ₁ q₁) ⊛ ‵ ftrue) ∷ ‵ (owns (ShrSlice (named 0) κ Record ∷ MutSlice (named 1) κ₁ u64 ∷ (progressP .T) ∷ []) a at) ∷ []) ∵ enter ! (𝓣 .C) (𝓣 .Λ) code.function (s ∷ p ∷ progressP .v z ∷ []) _ $
+          qed W ((‵ (flft κ q) ⊛ ‵ (flft κ₁ q₁) ⊛ ‵ ftrue) ∷ ‵ (owns (ShrSlice (named 0) κ RowRecord ∷ MutSlice (named 1) κ₁ u64 ∷ (progressP .T) ∷ []) a at) ∷ []) ∵ enter ! (𝓣 .C) (𝓣 .Λ) code.function (s ∷ p ∷ progressP .v z ∷ []) _ $
           alloc1 ! (λ l₀. alloc1 ! (λ l₁. alloc1 ! (λ l₂. alloc1 ! (λ l₃. alloc1 ! (λ l₄. alloc1 ! (λ l₅. alloc1 ! (λ l₆. alloc1 ! (λ l₇. alloc1 ! (λ l₈. alloc1 ! (λ l₉. alloc1 ! (λ l₁₀. alloc1 ! (λ l₁₁. alloc1 ! (λ l₁₂. alloc0 ! $ params1 ! $
           pass1 ! (init ! 22 refl (tt, (tt, (record { fits = room .0 }, tt)))) $ pass1 ! (init ! 20 refl (tt, (tt, (record { fits = p-room .0 }, tt)))) $ pass1 ! (init ! 18 refl (progressP .typed 𝓤 H A W z _ z-is)) $ pass0 ! $
           assigns ! (of-opd ! (load ! (from ! (stop !)) (look ! 18 refl))) (from ! (stop !)) (init ! 16 refl (progressP .typed 𝓤 H A W z _ z-is)) $
@@ -323,8 +323,8 @@ pass-over-spec 𝓤 H 𝓜 𝓖 𝓡 =
     entered 𝓤 H (tripleOf 𝓤 H (𝓖 .A) f.signature (f.spec 𝓤 H (𝓖 .A) (𝓜 .mem) (𝓡 .run)))
     (tables 𝓤 H 𝓜 𝓡 code.env .C) (tables 𝓤 H 𝓜 𝓡 code.env .Λ) #row·pass-over code.function (code.unfolded 𝓤 H 𝓜 𝓡)
     (meets-by-walk 𝓤 H (𝓖 .A) (givenOf 𝓤 H 𝓜 𝓖) f.ended stayed (f.clauses 𝓤 H (𝓖 .A) (𝓜 .mem) (𝓡 .run)) code.function (tablesOf 𝓤 H 𝓜 (tables 𝓤 H 𝓜 𝓡 code.env))
-    (goes-none-slice 𝓤 H (𝓖 .A) (givenOf 𝓤 H 𝓜 𝓖) 2 (0 ∷ []) tt (plain (λ _. Record)) yes, (goes-slice 𝓤 H (𝓖 .A) (givenOf 𝓤 H 𝓜 𝓖) 2 1 tt (plain (λ _. u64)), (goes-none 𝓤 H (𝓖 .A) (givenOf 𝓤 H 𝓜 𝓖) 2 (λ _. progressP .T) yes (λ κs x f. refl), tt)))
-    (λ κs. (slice-vals, (slice-vals, ((λ x. progressP .v x ∷ []), tt)))) (λ κs. (shr-slice-tells (named 0) (κs .0) Record, (mut-slice-tells (named 1) (κs .1 .0) u64, (Progress″.lowers .val-is, tt))))
+    (goes-none-slice 𝓤 H (𝓖 .A) (givenOf 𝓤 H 𝓜 𝓖) 2 (0 ∷ []) tt (plain (λ _. RowRecord)) yes, (goes-slice 𝓤 H (𝓖 .A) (givenOf 𝓤 H 𝓜 𝓖) 2 1 tt (plain (λ _. u64)), (goes-none 𝓤 H (𝓖 .A) (givenOf 𝓤 H 𝓜 𝓖) 2 (λ _. progressP .T) yes (λ κs x f. refl), tt)))
+    (λ κs. (slice-vals, (slice-vals, ((λ x. progressP .v x ∷ []), tt)))) (λ κs. (shr-slice-tells (named 0) (κs .0) RowRecord, (mut-slice-tells (named 1) (κs .1 .0) u64, (Progress″.lowers .val-is, tt))))
     (λ κs qs bounds a g are.
     walk 𝓤 H (𝓖 .A) (givenOf 𝓤 H 𝓜 𝓖) (𝓜 .mem) (𝓡 .run) (κs .0) (κs .1 .0) (qs .0) (qs .1 .0) (a .0 .ptr .0) (a .0 .ptr .1) (a .0 .name) (a .0 .now) (a .1 .0 .ptr .0) (a .1 .0 .ptr .1) (a .1 .0 .name) (a .1 .0 .now) (a .1 .1 .0)
     (are .0 .0 .1) (are .1 .0 .0 .1) (are .1 .1 .0) (tablesOf 𝓤 H 𝓜 (tables 𝓤 H 𝓜 𝓡 code.env)) (fmOf 𝓤 H (givenOf 𝓤 H 𝓜 𝓖 .laws) (tablesOf 𝓤 H 𝓜 (tables 𝓤 H 𝓜 𝓡 code.env)))

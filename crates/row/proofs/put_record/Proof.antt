@@ -38,7 +38,7 @@ use Rattle.table.specs.Table.{absent}
 use Rattle.session.specs.declared.Session.{Session}
 use Rattle.row.proofs.LentSlice.{slice, Mutable}
 use Rattle.row.proofs.OneElement.{element-opened, element-stored}
-use Rattle.row.proofs.RecordOfRow.{Record, value, values, offset-fits, offset-is}
+use Rattle.row.proofs.RecordOfRow.{RowRecord, value, values, offset-fits, offset-is}
 use Rattle.row.proofs.Branches.{returns-early}
 use Rattle.row.proofs.Locals.{frees-stored, frees-unused}
 use Rattle.row.proofs.ByWalk.{meets-by-walk}
@@ -49,12 +49,12 @@ use Rattle.row.proofs.put_record.Statement as stated
 use Rattle.row.proofs.put_record.Code as code
 
 abbrev stayed : Stays (f.ended .signature .params) (f.ended .kept)
-stayed = (stay-slice (0 ∷ []) tt (plain (λ _. Record)), (stay-none (λ _. usize) yes, (stay-none (λ _. Record) yes, tt)))
+stayed = (stay-slice (0 ∷ []) tt (plain (λ _. RowRecord)), (stay-none (λ _. usize) yes, (stay-none (λ _. RowRecord) yes, tt)))
 
 module _ {M : Type 1} (𝓤 : URA M) (H : Heap 𝓤) (A : Atoms 𝓤) (W : Given 𝓤 H A) (mem : Memory → SProp 𝓤) (run : Routine → Fun 𝓤) (κ : Lft) (q : Share) (b o : ℕ) (γ : GName) (ys : List Session) (i : ℕ) (r : Session) where
   -- the arguments, and their machine values
   abbrev a : Args f.signature (κ, tt)
-  a = (slice Record γ b o ys, (i, (r, tt)))
+  a = (slice RowRecord γ b o ys, (i, (r, tt)))
 
   abbrev s : Val
   s = sliceVal (b, o) (length ys)
@@ -72,18 +72,18 @@ module _ {M : Type 1} (𝓤 : URA M) (H : Heap 𝓤) (A : Atoms 𝓤) (W : Given
   within : Holds (not (leb (length ys) i)) → i < length ys
   within ok = nleb→lt (length ys) i ok
 
-  module _ (room : Room Record (length ys)) (gi : i < 2 ^ 64) (is : Is Record r (value r ∷ [])) where
-    exits : (zs : List Session) → zs ≡ set ys i r → length zs ≡ length ys → ent 𝓤 (⋆ 𝓤 H A (‵ (Mutable Record κ γ b o (length ys) zs) ∷ ‵ (flft κ q) ∷ [])) (Post vunit)
+  module _ (room : Room RowRecord (length ys)) (gi : i < 2 ^ 64) (is : Is RowRecord r (value r ∷ [])) where
+    exits : (zs : List Session) → zs ≡ set ys i r → length zs ≡ length ys → ent 𝓤 (⋆ 𝓤 H A (‵ (Mutable RowRecord κ γ b o (length ys) zs) ∷ ‵ (flft κ q) ∷ [])) (Post vunit)
     exits zs e len =
-        qed W (‵ (Mutable Record κ γ b o (length ys) zs) ∷ ‵ (flft κ q) ∷ []) ∵
+        qed W (‵ (Mutable RowRecord κ γ b o (length ys) zs) ∷ ‵ (flft κ q) ∷ []) ∵
         suffices ! _ (ends-at 𝓤 H A f.ended stayed (f.clauses 𝓤 H A mem run) W (((κ, tt), (q, tt), tt, a, at), tt) vunit tt (zs, (tt, (tt, tt))) (len, (tt, (tt, tt)))) $ says ! e $
         nothing ! $ move ! (2 ∷ 0 ∷ []) $ join ! $ frame ! $
-        nothing ! $ owned ! Record (Is Record) (sessionP .makes 𝓤 H A W) r _ is $ fjoin ! $ owned ! usize (Is usize) (uint-makes 𝓤 H A W w64) i _ (refl, gi) $ fjoin ! $ move ! (1 ∷ 0 ∷ []) $ fjoin ! $ frame ! $
+        nothing ! $ owned ! RowRecord (Is RowRecord) (sessionP .makes 𝓤 H A W) r _ is $ fjoin ! $ owned ! usize (Is usize) (uint-makes 𝓤 H A W w64) i _ (refl, gi) $ fjoin ! $ move ! (1 ∷ 0 ∷ []) $ fjoin ! $ frame ! $
         feqI ! (List Val) (vunit ∷ []) (vunit ∷ []) refl $ done !
 
     walk : (C : Calls 𝓤 H) (Λ : Loops 𝓤 H) → ent 𝓤 (onEntry 𝓤 H A f.signature (κ, tt) (q, tt) a at) (WpFn 𝓤 H C Λ code.function (s ∷ vint w64 i ∷ value r ∷ []) Post)
     walk C Λ =
-        qed W ((‵ (flft κ q) ⊛ ‵ ftrue) ∷ ‵ (owns (MutSlice (named 0) κ Record ∷ usize ∷ Record ∷ []) a at) ∷ []) ∵ enter ! C Λ code.function (s ∷ vint w64 i ∷ value r ∷ []) _ $
+        qed W ((‵ (flft κ q) ⊛ ‵ ftrue) ∷ ‵ (owns (MutSlice (named 0) κ RowRecord ∷ usize ∷ RowRecord ∷ []) a at) ∷ []) ∵ enter ! C Λ code.function (s ∷ vint w64 i ∷ value r ∷ []) _ $
         alloc1 ! (λ l₀. alloc1 ! (λ l₁. alloc1 ! (λ l₂. alloc1 ! (λ l₃. alloc1 ! (λ l₄. alloc1 ! (λ l₅. alloc1 ! (λ l₆. alloc0 ! $ params1 ! $
         pass1 ! (init ! 10 refl (tt, (tt, (record { fits = room .0 }, tt)))) $ pass1 ! (init ! 8 refl (tt, record { fits = gi })) $ pass1 ! (init ! 6 refl (sessionP .typed 𝓤 H A W r _ is)) $ pass0 ! $
         -- of what is owned at entry, the borrow and the token
@@ -113,7 +113,7 @@ put-record-spec 𝓤 H 𝓜 𝓖 𝓡 =
     entered 𝓤 H (tripleOf 𝓤 H (𝓖 .A) f.signature (f.spec 𝓤 H (𝓖 .A) (𝓜 .mem) (𝓡 .run)))
     (tables 𝓤 H 𝓜 𝓡 code.env .C) (tables 𝓤 H 𝓜 𝓡 code.env .Λ) #row·put-record code.function (code.unfolded 𝓤 H 𝓜 𝓡)
     (meets-by-walk 𝓤 H (𝓖 .A) (givenOf 𝓤 H 𝓜 𝓖) f.ended stayed (f.clauses 𝓤 H (𝓖 .A) (𝓜 .mem) (𝓡 .run)) code.function (tablesOf 𝓤 H 𝓜 (tables 𝓤 H 𝓜 𝓡 code.env))
-    (goes-slice 𝓤 H (𝓖 .A) (givenOf 𝓤 H 𝓜 𝓖) 1 0 tt (plain (λ _. Record)), (goes-none 𝓤 H (𝓖 .A) (givenOf 𝓤 H 𝓜 𝓖) 1 (λ _. usize) yes (λ κs x f. refl), (goes-none 𝓤 H (𝓖 .A) (givenOf 𝓤 H 𝓜 𝓖) 1 (λ _. Record) yes (λ κs x f. refl), tt)))
-    (λ κs. (slice-vals, (uint-vals w64, (values, tt)))) (λ κs. (mut-slice-tells (named 0) (κs .0) Record, (uint-tells w64, (sessionP .tells, tt))))
+    (goes-slice 𝓤 H (𝓖 .A) (givenOf 𝓤 H 𝓜 𝓖) 1 0 tt (plain (λ _. RowRecord)), (goes-none 𝓤 H (𝓖 .A) (givenOf 𝓤 H 𝓜 𝓖) 1 (λ _. usize) yes (λ κs x f. refl), (goes-none 𝓤 H (𝓖 .A) (givenOf 𝓤 H 𝓜 𝓖) 1 (λ _. RowRecord) yes (λ κs x f. refl), tt)))
+    (λ κs. (slice-vals, (uint-vals w64, (values, tt)))) (λ κs. (mut-slice-tells (named 0) (κs .0) RowRecord, (uint-tells w64, (sessionP .tells, tt))))
     (λ κs qs bounds a g are.
     walk 𝓤 H (𝓖 .A) (givenOf 𝓤 H 𝓜 𝓖) (𝓜 .mem) (𝓡 .run) (κs .0) (qs .0) (a .0 .ptr .0) (a .0 .ptr .1) (a .0 .name) (a .0 .now) (a .1 .0) (a .1 .1 .0) (are .0 .0 .1) (are .1 .0 .1) (are .1 .1 .0) _ _))

@@ -43,7 +43,7 @@ use Rattle.table.proofs.absent.Symbol.{name as #table·absent}
 use Rattle.table.proofs.absent.Met as ab-thm
 use Rattle.row.proofs.LentSlice.{slice, Shared}
 use Rattle.row.proofs.OneElement.{element-shown, element-read}
-use Rattle.row.proofs.RecordOfRow.{Record, value, copied, offset-fits, offset-is}
+use Rattle.row.proofs.RecordOfRow.{RowRecord, value, copied, offset-fits, offset-is}
 use Rattle.row.proofs.Callee.{callee-answers}
 use Rattle.row.proofs.Branches.{returns-early}
 use Rattle.row.proofs.Locals.{frees-stored, frees-unused}
@@ -55,7 +55,7 @@ use Rattle.row.proofs.record_at.Statement as stated
 use Rattle.row.proofs.record_at.Code as code
 
 abbrev stayed : Stays (f.ended .signature .params) (f.ended .kept)
-stayed = (stay-none-slice (0 ∷ []) tt (plain (λ _. Record)) yes, (stay-none (λ _. usize) yes, tt))
+stayed = (stay-none-slice (0 ∷ []) tt (plain (λ _. RowRecord)) yes, (stay-none (λ _. usize) yes, tt))
 
 -- the contract that the proof cites
 abbrev Absent : {M : Type 1} (𝓤 : URA M) (H : Heap 𝓤) (A : Atoms 𝓤) (mem : Memory → SProp 𝓤) (run : Routine → Fun 𝓤) → Contract 𝓤
@@ -64,7 +64,7 @@ Absent 𝓤 H A mem run = tripleOf 𝓤 H A ab.signature (ab.spec 𝓤 H A mem r
 module _ {M : Type 1} (𝓤 : URA M) (H : Heap 𝓤) (A : Atoms 𝓤) (W : Given 𝓤 H A) (mem : Memory → SProp 𝓤) (run : Routine → Fun 𝓤) (κ : Lft) (q : Share) (b o : ℕ) (γ : GName) (ys : List Session) (i : ℕ) where
   -- the arguments, and their machine values
   abbrev a : Args f.signature (κ, tt)
-  a = (slice Record γ b o ys, (i, tt))
+  a = (slice RowRecord γ b o ys, (i, tt))
 
   abbrev s : Val
   s = sliceVal (b, o) (length ys)
@@ -92,18 +92,18 @@ module _ {M : Type 1} (𝓤 : URA M) (H : Heap 𝓤) (A : Atoms 𝓤) (W : Given
   goes-ab : ent 𝓤 (emp 𝓤) (Absent 𝓤 H A mem run .pre to-ab)
   goes-ab = qed W [] ∵ nothing ! $ nothing ! $ join ! $ frame ! $ done !
 
-  module _ (room : Room Record (length ys)) (gi : i < 2 ^ 64) where
-    exits : (w : Val) (x : Session) → Is Record x (w ∷ []) → x ≡ r → ent 𝓤 (⋆ 𝓤 H A (‵ (Shared Record κ γ b o (length ys) ys) ∷ ‵ (flft κ q) ∷ [])) (Post w)
+  module _ (room : Room RowRecord (length ys)) (gi : i < 2 ^ 64) where
+    exits : (w : Val) (x : Session) → Is RowRecord x (w ∷ []) → x ≡ r → ent 𝓤 (⋆ 𝓤 H A (‵ (Shared RowRecord κ γ b o (length ys) ys) ∷ ‵ (flft κ q) ∷ [])) (Post w)
     exits w x is e =
-        qed W (‵ (Shared Record κ γ b o (length ys) ys) ∷ ‵ (flft κ q) ∷ []) ∵
+        qed W (‵ (Shared RowRecord κ γ b o (length ys) ys) ∷ ‵ (flft κ q) ∷ []) ∵
         suffices ! _ (ends-at 𝓤 H A f.ended stayed (f.clauses 𝓤 H A mem run) W (((κ, tt), (q, tt), tt, a, at), tt) w x (tt, (tt, tt)) (tt, (tt, tt))) $ says ! e $
         nothing ! $ move ! (2 ∷ 0 ∷ []) $ join ! $ frame ! $ nothing ! $ owned ! usize (Is usize) (uint-makes 𝓤 H A W w64) i _ (refl, gi) $ fjoin ! $ move ! (1 ∷ 0 ∷ []) $ fjoin ! $ frame ! $
-        owned ! Record (Is Record) (sessionP .makes 𝓤 H A W) x _ is $ done !
+        owned ! RowRecord (Is RowRecord) (sessionP .makes 𝓤 H A W) x _ is $ done !
 
     walk : (C : Calls 𝓤 H) (Λ : Loops 𝓤 H) → FmC 𝓤 H (W .laws) C → Triple 𝓤 (C #table·absent) (Absent 𝓤 H A mem run)
         → ent 𝓤 (onEntry 𝓤 H A f.signature (κ, tt) (q, tt) a at) (WpFn 𝓤 H C Λ code.function (s ∷ vint w64 i ∷ []) Post)
     walk C Λ fm known =
-        qed W ((‵ (flft κ q) ⊛ ‵ ftrue) ∷ ‵ (owns (ShrSlice (named 0) κ Record ∷ usize ∷ []) a at) ∷ []) ∵ enter ! C Λ code.function (s ∷ vint w64 i ∷ []) _ $
+        qed W ((‵ (flft κ q) ⊛ ‵ ftrue) ∷ ‵ (owns (ShrSlice (named 0) κ RowRecord ∷ usize ∷ []) a at) ∷ []) ∵ enter ! C Λ code.function (s ∷ vint w64 i ∷ []) _ $
         alloc1 ! (λ l₀. alloc1 ! (λ l₁. alloc1 ! (λ l₂. alloc1 ! (λ l₃. alloc1 ! (λ l₄. alloc1 ! (λ l₅. alloc1 ! (λ l₆. alloc0 ! $ params1 ! $
         pass1 ! (init ! 10 refl (tt, (tt, (record { fits = room .0 }, tt)))) $ pass1 ! (init ! 8 refl (tt, record { fits = gi })) $ pass0 ! $
         -- of what is owned at entry, the slice and the token
@@ -134,8 +134,8 @@ record-at-spec 𝓤 H 𝓜 𝓖 𝓡 =
     entered 𝓤 H (tripleOf 𝓤 H (𝓖 .A) f.signature (f.spec 𝓤 H (𝓖 .A) (𝓜 .mem) (𝓡 .run)))
     (tables 𝓤 H 𝓜 𝓡 code.env .C) (tables 𝓤 H 𝓜 𝓡 code.env .Λ) #row·record-at code.function (code.unfolded 𝓤 H 𝓜 𝓡)
     (meets-by-walk 𝓤 H (𝓖 .A) (givenOf 𝓤 H 𝓜 𝓖) f.ended stayed (f.clauses 𝓤 H (𝓖 .A) (𝓜 .mem) (𝓡 .run)) code.function (tablesOf 𝓤 H 𝓜 (tables 𝓤 H 𝓜 𝓡 code.env))
-    (goes-none-slice 𝓤 H (𝓖 .A) (givenOf 𝓤 H 𝓜 𝓖) 1 (0 ∷ []) tt (plain (λ _. Record)) yes, (goes-none 𝓤 H (𝓖 .A) (givenOf 𝓤 H 𝓜 𝓖) 1 (λ _. usize) yes (λ κs x f. refl), tt))
-    (λ κs. (slice-vals, (uint-vals w64, tt))) (λ κs. (shr-slice-tells (named 0) (κs .0) Record, (uint-tells w64, tt)))
+    (goes-none-slice 𝓤 H (𝓖 .A) (givenOf 𝓤 H 𝓜 𝓖) 1 (0 ∷ []) tt (plain (λ _. RowRecord)) yes, (goes-none 𝓤 H (𝓖 .A) (givenOf 𝓤 H 𝓜 𝓖) 1 (λ _. usize) yes (λ κs x f. refl), tt))
+    (λ κs. (slice-vals, (uint-vals w64, tt))) (λ κs. (shr-slice-tells (named 0) (κs .0) RowRecord, (uint-tells w64, tt)))
     (λ κs qs bounds a g are.
     walk 𝓤 H (𝓖 .A) (givenOf 𝓤 H 𝓜 𝓖) (𝓜 .mem) (𝓡 .run) (κs .0) (qs .0) (a .0 .ptr .0) (a .0 .ptr .1) (a .0 .name) (a .0 .now) (a .1 .0) (are .0 .0 .1) (are .1 .0 .1) _ _
     (fmOf 𝓤 H (givenOf 𝓤 H 𝓜 𝓖 .laws) (tablesOf 𝓤 H 𝓜 (tables 𝓤 H 𝓜 𝓡 code.env)))

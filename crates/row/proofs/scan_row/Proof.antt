@@ -49,7 +49,7 @@ use Rattle.scan.specs.Passing.{startOf, Pass, passOver, judgedOf, passOf, summa
 use Rattle.scan.proofs.Target.Laws as Target″
 use Rattle.scan.proofs.Progress.Laws as Progress″
 use Rattle.row.proofs.LentSlice.{slice, Shared, Mutable}
-use Rattle.row.proofs.RecordOfRow.{Record}
+use Rattle.row.proofs.RecordOfRow.{RowRecord}
 use Rattle.row.proofs.Callee.{callee-answers, token-back}
 use Rattle.row.proofs.Locals.{frees-stored}
 use Rattle.row.proofs.ByWalk.{meets-by-walk}
@@ -73,7 +73,7 @@ use Rattle.row.proofs.scan_row.Statement as stated
 use Rattle.row.proofs.scan_row.Code as code
 
 abbrev stayed : Stays (f.ended .signature .params) (f.ended .kept)
-stayed = (stay-none-slice (0 ∷ []) tt (plain (λ _. Record)) yes, (stay-none (λ _. headP .T) yes, (stay-none (λ _. targetP .T) yes, tt)))
+stayed = (stay-none-slice (0 ∷ []) tt (plain (λ _. RowRecord)) yes, (stay-none (λ _. headP .T) yes, (stay-none (λ _. targetP .T) yes, tt)))
 
 module _ {M : Type 1} (𝓤 : URA M) (H : Heap 𝓤) (A : Atoms 𝓤) (mem : Memory → SProp 𝓤) (run : Routine → Fun 𝓤) where
   -- the contracts that the proof cites
@@ -106,7 +106,7 @@ summed ys h t c₀ c ps n e₀ e₁ e₂ = e₂ ∙ ap (λ (p : Pass). judgedOf 
 module _ {M : Type 1} (𝓤 : URA M) (H : Heap 𝓤) (A : Atoms 𝓤) (W : Given 𝓤 H A) (mem : Memory → SProp 𝓤) (run : Routine → Fun 𝓤) (κ : Lft) (q : Share) (b o : ℕ) (γ : GName) (ys : List Session) (h : Head) (t : Target) where
   -- the arguments, and their machine values
   abbrev a : Args f.signature (κ, tt)
-  a = (slice Record γ b o ys, (h, (t, tt)))
+  a = (slice RowRecord γ b o ys, (h, (t, tt)))
 
   abbrev s : Val
   s = sliceVal (b, o) (length ys)
@@ -129,28 +129,28 @@ module _ {M : Type 1} (𝓤 : URA M) (H : Heap 𝓤) (A : Atoms 𝓤) (W : Given
   to-st = ((tt, tt, tt, (length ys, (h, (t, tt))), (vint w64 (length ys) ∷ [], (headP .v h ∷ [], (targetP .v t ∷ [], tt)))), tt)
 
   abbrev to-po : ℕ → ℕ → GName → Progress → PassC 𝓤 H A mem run .Ghost
-  to-po ν l δ c = (((κ, (ν ∷ [], tt)), (q, (fullShare, tt)), tt, (slice Record γ b o ys, (slice u64 δ l 0 noughts, (c, tt))), (s ∷ [], (sliceVal (l, 0) 64 ∷ [], (progressP .v c ∷ [], tt)))), tt)
+  to-po ν l δ c = (((κ, (ν ∷ [], tt)), (q, (fullShare, tt)), tt, (slice RowRecord γ b o ys, (slice u64 δ l 0 noughts, (c, tt))), (s ∷ [], (sliceVal (l, 0) 64 ∷ [], (progressP .v c ∷ [], tt)))), tt)
 
   abbrev to-ju : ℕ → ℕ → GName → List ℕ → Progress → JudgedC 𝓤 H A mem run .Ghost
   to-ju ν l δ ps c = (((ν ∷ [], tt), (fullShare, tt), tt, (slice u64 δ l 0 ps, (c, tt)), (sliceVal (l, 0) 64 ∷ [], (progressP .v c ∷ [], tt))), tt)
 
-  module _ (room : Room Record (length ys)) (h-is : Is (headP .T) h (headP .v h ∷ [])) (t-is : Is (targetP .T) t (targetP .v t ∷ [])) where
+  module _ (room : Room RowRecord (length ys)) (h-is : Is (headP .T) h (headP .v h ∷ [])) (t-is : Is (targetP .T) t (targetP .v t ∷ [])) where
     -- what each callee asks
     goes-st : ent 𝓤 (emp 𝓤) (StartC 𝓤 H A mem run .pre to-st)
     goes-st = qed W [] ∵ nothing ! $ owned ! (targetP .T) (Is (targetP .T)) (targetP .makes 𝓤 H A W) t _ t-is $ fjoin ! $ owned ! (headP .T) (Is (headP .T)) (headP .makes 𝓤 H A W) h _ h-is $ fjoin ! $ owned ! usize (Is usize) (uint-makes 𝓤 H A W w64) (length ys) _ (refl, room .0) $ fjoin ! $ nothing ! $ join ! $ frame ! $ done !
 
-    goes-po : (ν l : ℕ) (δ : GName) (c : Progress) → Is (progressP .T) c (progressP .v c ∷ []) → ent 𝓤 (⋆ 𝓤 H A ((‵ (flft κ q) ⊛ ‵ (flft (ν ∷ []) fullShare) ⊛ ‵ ftrue) ∷ ‵ (Shared Record κ γ b o (length ys) ys) ∷ ‵ (Mutable u64 (ν ∷ []) δ l 0 64 noughts) ∷ [])) (PassC 𝓤 H A mem run .pre (to-po ν l δ c))
+    goes-po : (ν l : ℕ) (δ : GName) (c : Progress) → Is (progressP .T) c (progressP .v c ∷ []) → ent 𝓤 (⋆ 𝓤 H A ((‵ (flft κ q) ⊛ ‵ (flft (ν ∷ []) fullShare) ⊛ ‵ ftrue) ∷ ‵ (Shared RowRecord κ γ b o (length ys) ys) ∷ ‵ (Mutable u64 (ν ∷ []) δ l 0 64 noughts) ∷ [])) (PassC 𝓤 H A mem run .pre (to-po ν l δ c))
     goes-po ν l δ c is =
-        qed W ((‵ (flft κ q) ⊛ ‵ (flft (ν ∷ []) fullShare) ⊛ ‵ ftrue) ∷ ‵ (Shared Record κ γ b o (length ys) ys) ∷ ‵ (Mutable u64 (ν ∷ []) δ l 0 64 noughts) ∷ []) ∵ nothing ! $ owned ! (progressP .T) (Is (progressP .T)) (progressP .makes 𝓤 H A W) c _ is $ fjoin ! $
+        qed W ((‵ (flft κ q) ⊛ ‵ (flft (ν ∷ []) fullShare) ⊛ ‵ ftrue) ∷ ‵ (Shared RowRecord κ γ b o (length ys) ys) ∷ ‵ (Mutable u64 (ν ∷ []) δ l 0 64 noughts) ∷ []) ∵ nothing ! $ owned ! (progressP .T) (Is (progressP .T)) (progressP .makes 𝓤 H A W) c _ is $ fjoin ! $
         move ! (3 ∷ 0 ∷ []) $ fjoin ! $ move ! (2 ∷ 0 ∷ []) $ fjoin ! $ move ! (1 ∷ 0 ∷ []) $ join ! $ frame ! $ done !
 
     goes-ju : (ν l : ℕ) (δ : GName) (ps : List ℕ) (c : Progress) → Is (progressP .T) c (progressP .v c ∷ []) → ent 𝓤 (⋆ 𝓤 H A (‵ (flft (ν ∷ []) fullShare) ∷ ‵ (Shared u64 (ν ∷ []) δ l 0 64 ps) ∷ [])) (JudgedC 𝓤 H A mem run .pre (to-ju ν l δ ps c))
     goes-ju ν l δ ps c is =
         qed W (‵ (flft (ν ∷ []) fullShare) ∷ ‵ (Shared u64 (ν ∷ []) δ l 0 64 ps) ∷ []) ∵ nothing ! $ owned ! (progressP .T) (Is (progressP .T)) (progressP .makes 𝓤 H A W) c _ is $ fjoin ! $ move ! (2 ∷ 0 ∷ []) $ fjoin ! $ nothing ! $ move ! (2 ∷ 0 ∷ []) $ join ! $ join ! $ frame ! $ done !
 
-    exits : (w : Val) (n : Summary) → Is (summaryP .T) n (w ∷ []) → n ≡ summaryOf ys h t → ent 𝓤 (⋆ 𝓤 H A (‵ (flft κ q) ∷ ‵ (Shared Record κ γ b o (length ys) ys) ∷ [])) (Post w)
+    exits : (w : Val) (n : Summary) → Is (summaryP .T) n (w ∷ []) → n ≡ summaryOf ys h t → ent 𝓤 (⋆ 𝓤 H A (‵ (flft κ q) ∷ ‵ (Shared RowRecord κ γ b o (length ys) ys) ∷ [])) (Post w)
     exits w n is e =
-        qed W (‵ (flft κ q) ∷ ‵ (Shared Record κ γ b o (length ys) ys) ∷ []) ∵
+        qed W (‵ (flft κ q) ∷ ‵ (Shared RowRecord κ γ b o (length ys) ys) ∷ []) ∵
         suffices ! _ (ends-at 𝓤 H A f.ended stayed (f.clauses 𝓤 H A mem run) W (((κ, tt), (q, tt), tt, a, at), tt) w n (tt, (tt, (tt, tt))) (tt, (tt, (tt, tt)))) $ says ! e $
         nothing ! $ move ! (1 ∷ 0 ∷ []) $ join ! $ frame ! $ nothing ! $ owned ! (targetP .T) (Is (targetP .T)) (targetP .makes 𝓤 H A W) t _ t-is $ fjoin ! $ owned ! (headP .T) (Is (headP .T)) (headP .makes 𝓤 H A W) h _ h-is $ fjoin ! $ move ! (1 ∷ 0 ∷ []) $ fjoin ! $ frame ! $
         owned ! (summaryP .T) (Is (summaryP .T)) (summaryP .makes 𝓤 H A W) n _ is $ done !
@@ -158,11 +158,11 @@ module _ {M : Type 1} (𝓤 : URA M) (H : Heap 𝓤) (A : Atoms 𝓤) (W : Given
     walk : (C : Calls 𝓤 H) (Λ : Loops 𝓤 H) → FmC 𝓤 H (W .laws) C → Triple 𝓤 (C #scan·start) (StartC 𝓤 H A mem run) → Triple 𝓤 (C #row·pass-over) (PassC 𝓤 H A mem run) → Triple 𝓤 (C #scan·judged) (JudgedC 𝓤 H A mem run)
         → ent 𝓤 (onEntry 𝓤 H A f.signature (κ, tt) (q, tt) a at) (WpFn 𝓤 H C Λ code.function (s ∷ headP .v h ∷ targetP .v t ∷ []) Post)
     walk C Λ fm known-st known-po known-ju =
-        qed W ((‵ (flft κ q) ⊛ ‵ ftrue) ∷ ‵ (owns (ShrSlice (named 0) κ Record ∷ (headP .T) ∷ (targetP .T) ∷ []) a at) ∷ []) ∵ enter ! C Λ code.function (s ∷ headP .v h ∷ targetP .v t ∷ []) _ $
+        qed W ((‵ (flft κ q) ⊛ ‵ ftrue) ∷ ‵ (owns (ShrSlice (named 0) κ RowRecord ∷ (headP .T) ∷ (targetP .T) ∷ []) a at) ∷ []) ∵ enter ! C Λ code.function (s ∷ headP .v h ∷ targetP .v t ∷ []) _ $
         alloc1 ! (λ l₀. alloc1 ! (λ l₁. alloc1 ! (λ l₂. alloc1 ! (λ l₃. alloc1 ! (λ l₄. alloc1 ! (λ l₅. alloc1 ! (λ l₆. alloc1 ! (λ l₇. alloc1 ! (λ l₈. alloc1 ! (λ l₉. alloc1 ! (λ l₁₀. alloc1 ! (λ l₁₁. alloc0 ! $ params1 ! $
         pass1 ! (init ! 20 refl (tt, (tt, (record { fits = room .0 }, tt)))) $ pass1 ! (init ! 18 refl (headP .typed 𝓤 H A W h _ h-is)) $ pass1 ! (init ! 16 refl (targetP .typed 𝓤 H A W t _ t-is)) $ pass0 ! $
         -- of what is owned at entry: the row twice, and its token
-        move ! (25 ∷ []) $ fsplit ! $ move ! (1 ∷ []) $ drop ! $ use1 W (‵ (Shared Record κ γ b o (length ys) ys) ⊛ ‵ (Shared Record κ γ b o (length ys) ys)) (shr-slice-copy 𝓤 H A W (named 0) κ Record .twice (slice Record γ b o ys) (s ∷ [])) $ split ! $ move ! (26 ∷ []) $ split ! $
+        move ! (25 ∷ []) $ fsplit ! $ move ! (1 ∷ []) $ drop ! $ use1 W (‵ (Shared RowRecord κ γ b o (length ys) ys) ⊛ ‵ (Shared RowRecord κ γ b o (length ys) ys)) (shr-slice-copy 𝓤 H A W (named 0) κ RowRecord .twice (slice RowRecord γ b o ys) (s ∷ [])) $ split ! $ move ! (26 ∷ []) $ split ! $
         -- [the token; true; the row; the row; _11; …; _1; …; room for _0; …]
         assigns ! (rep ! 64 (lit ! tt)) (from ! (stop !)) (init ! 18 refl made-typed) $
         rewrite ! 18 (λ (us : List Val). ‵ (fat fullShare (tyArray (tyInt w64) 64) l₄ 0 (arrayVal us))) (repeat-val 64 0) refl $
@@ -205,8 +205,8 @@ scan-row-spec 𝓤 H 𝓜 𝓖 𝓡 =
     entered 𝓤 H (tripleOf 𝓤 H (𝓖 .A) f.signature (f.spec 𝓤 H (𝓖 .A) (𝓜 .mem) (𝓡 .run)))
     (tables 𝓤 H 𝓜 𝓡 code.env .C) (tables 𝓤 H 𝓜 𝓡 code.env .Λ) #row·scan-row code.function (code.unfolded 𝓤 H 𝓜 𝓡)
     (meets-by-walk 𝓤 H (𝓖 .A) (givenOf 𝓤 H 𝓜 𝓖) f.ended stayed (f.clauses 𝓤 H (𝓖 .A) (𝓜 .mem) (𝓡 .run)) code.function (tablesOf 𝓤 H 𝓜 (tables 𝓤 H 𝓜 𝓡 code.env))
-    (goes-none-slice 𝓤 H (𝓖 .A) (givenOf 𝓤 H 𝓜 𝓖) 1 (0 ∷ []) tt (plain (λ _. Record)) yes, (goes-none 𝓤 H (𝓖 .A) (givenOf 𝓤 H 𝓜 𝓖) 1 (λ _. headP .T) yes (λ κs x f. refl), (goes-none 𝓤 H (𝓖 .A) (givenOf 𝓤 H 𝓜 𝓖) 1 (λ _. targetP .T) yes (λ κs x f. refl), tt)))
-    (λ κs. (slice-vals, ((λ x. headP .v x ∷ []), ((λ x. targetP .v x ∷ []), tt)))) (λ κs. (shr-slice-tells (named 0) (κs .0) Record, (Head″.lowers .val-is, (Target″.lowers .val-is, tt))))
+    (goes-none-slice 𝓤 H (𝓖 .A) (givenOf 𝓤 H 𝓜 𝓖) 1 (0 ∷ []) tt (plain (λ _. RowRecord)) yes, (goes-none 𝓤 H (𝓖 .A) (givenOf 𝓤 H 𝓜 𝓖) 1 (λ _. headP .T) yes (λ κs x f. refl), (goes-none 𝓤 H (𝓖 .A) (givenOf 𝓤 H 𝓜 𝓖) 1 (λ _. targetP .T) yes (λ κs x f. refl), tt)))
+    (λ κs. (slice-vals, ((λ x. headP .v x ∷ []), ((λ x. targetP .v x ∷ []), tt)))) (λ κs. (shr-slice-tells (named 0) (κs .0) RowRecord, (Head″.lowers .val-is, (Target″.lowers .val-is, tt))))
     (λ κs qs bounds a g are.
     walk 𝓤 H (𝓖 .A) (givenOf 𝓤 H 𝓜 𝓖) (𝓜 .mem) (𝓡 .run) (κs .0) (qs .0) (a .0 .ptr .0) (a .0 .ptr .1) (a .0 .name) (a .0 .now) (a .1 .0) (a .1 .1 .0) (are .0 .0 .1) (are .1 .0) (are .1 .1 .0) _ _
     (fmOf 𝓤 H (givenOf 𝓤 H 𝓜 𝓖 .laws) (tablesOf 𝓤 H 𝓜 (tables 𝓤 H 𝓜 𝓡 code.env)))
