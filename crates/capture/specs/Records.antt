@@ -61,8 +61,8 @@ settingsIn label b =
       period = numberAt 4 b 4;
       own = mepIn (numberAt 2 b 8) b 10;
       expected = mepIn (numberAt 2 b 8) b 22;
-      link = getD b 34 0 % 2;
-      lock = getD b 34 0 / 2 % 2;
+      followlink = getD b 34 0 % 2;
+      followlock = getD b 34 0 / 2 % 2;
     }
 
 -- the act of a kind from 2 on; a CC has 28 octets to write, a CV 44

@@ -182,8 +182,8 @@ fn settings_in(label: u32, b: &[u8]) -> Settings
         period: period,
         own: own,
         expected: expected,
-        link: marks % 2,
-        lock: marks / 2 % 2,
+        followlink: marks % 2,
+        followlock: marks / 2 % 2,
     }
 }
 

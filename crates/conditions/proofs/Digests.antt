@@ -15,7 +15,7 @@ use Rattle.rules.proofs.SameKeys.{SameSays, same-says, says-same}
 use Rattle.conditions.specs.declared.Condition.{Condition}
 use Rattle.conditions.specs.declared.Conditions.{Conditions}
 use Rattle.conditions.specs.declared.sound.Digest.{Digest}
-use Rattle.conditions.specs.Standing.{filled, fresh, stands}
+use Rattle.conditions.specs.Standing.{filled, fresh, placeStands}
 use Rattle.conditions.specs.Soundness.{placeSound, clash, conditionsSound}
 use Rattle.conditions.specs.Digests.{blankOf, tagOf, wordOf, keyDigest, digestOf, alike}
 use Rattle.conditions.proofs.Fading.{place-says}
@@ -24,7 +24,7 @@ use Rattle.conditions.proofs.Taken.{Apart, Sound, sound-says}
 pub told-sound : (c : Condition) (clock : ℕ) → digestOf c clock .sound ≡ placeSound c clock
 unfolding digestOf
 told-sound c clock =
-    split (placeSound c clock) (λ s. split (stands c clock) (λ t. rw (s, t)) (λ t. rw (s, t))) (λ s. rw s)
+    split (placeSound c clock) (λ s. split (placeStands c clock) (λ t. rw (s, t)) (λ t. rw (s, t))) (λ s. rw s)
 
 -- a key whose node fits its 32 bits and whose mark is 0 or 1
 pub record Fits (k : Key) : Type 0 where
@@ -97,11 +97,11 @@ module _ (a b : Key) (f : Fits a) (g : Fits b) where
       both-true (both-true {a = not (eqb (tagOf b) 0)} (rw (tag-filled b k)) (eq-eqb _ _ (s .0))) (eq-eqb _ _ (s .1)))
 
 -- the digest of a sound place
-stands-digest : (c : Condition) (clock : ℕ) → placeSound c clock ≡ true → stands c clock ≡ true → digestOf c clock ≡ keyDigest (c .key)
+stands-digest : (c : Condition) (clock : ℕ) → placeSound c clock ≡ true → placeStands c clock ≡ true → digestOf c clock ≡ keyDigest (c .key)
 unfolding digestOf
 stands-digest c clock s t = rw (s, t)
 
-lapsed-digest : (c : Condition) (clock : ℕ) → placeSound c clock ≡ true → stands c clock ≡ false → digestOf c clock ≡ blankOf true
+lapsed-digest : (c : Condition) (clock : ℕ) → placeSound c clock ≡ true → placeStands c clock ≡ false → digestOf c clock ≡ blankOf true
 unfolding digestOf
 lapsed-digest c clock s t = rw (s, t)
 
@@ -110,8 +110,8 @@ record Stands (c : Condition) : Type 0 where
   kind : 1 ≤ c .key .kind
   present : c .key .present < 2
 
-stands-says : (c : Condition) (clock : ℕ) → placeSound c clock ≡ true → stands c clock ≡ true → Stands c
-unfolding stands
+stands-says : (c : Condition) (clock : ℕ) → placeSound c clock ≡ true → placeStands c clock ≡ true → Stands c
+unfolding placeStands
 stands-says c clock s t =
     let f = and-both (filled c) (fresh c clock) t .0 in
     let n = eqb-false (c .key .kind) 0 (not-true _ f) in
@@ -129,8 +129,8 @@ regrouped true true false true false = refl
 regrouped true true false false y = refl
 
 -- a clash is two conditions that stand, of one key
-clash-stands : (a b : Condition) (clock : ℕ) → clash a b clock ≡ (stands a clock && stands b clock && sameKey (a .key) (b .key))
-unfolding clash stands
+clash-stands : (a b : Condition) (clock : ℕ) → clash a b clock ≡ (placeStands a clock && placeStands b clock && sameKey (a .key) (b .key))
+unfolding clash placeStands
 clash-stands a b clock = regrouped (filled a) (filled b) (sameKey (a .key) (b .key)) (fresh a clock) (fresh b clock)
 
 module _ (a b : Condition) (clock : ℕ) (m : a .key .node < 4294967296) (n : b .key .node < 4294967296) (p : placeSound a clock ≡ true) (q : placeSound b clock ≡ true) where
@@ -138,13 +138,13 @@ module _ (a b : Condition) (clock : ℕ) (m : a .key .node < 4294967296) (n : b 
   pub alike-clash : alike (digestOf a clock) (digestOf b clock) ≡ clash a b clock
   alike-clash =
       rw (clash-stands a b clock)
-      (split (stands b clock)
+      (split (placeStands b clock)
       (λ t. let y = stands-says b clock q t in
-      split (stands a clock)
+      split (placeStands a clock)
       (λ s. rw (s, t, stands-digest a clock p s, stands-digest b clock q t)
       (alike-keys (a .key) (b .key) (record { node = m; present = stands-says a clock p s .present }) (record { node = n; present = y .present }) (y .kind)))
       (λ s. rw (s, lapsed-digest a clock p s, stands-digest b clock q t) (blank-unlike (b .key) (y .kind))))
-      (λ t. rw (lapsed-digest b clock q t) (split (stands a clock) (λ s. rw (s, t) (unlike-blank (digestOf a clock))) (λ s. rw s (unlike-blank (digestOf a clock))))))
+      (λ t. rw (lapsed-digest b clock q t) (split (placeStands a clock) (λ s. rw (s, t) (unlike-blank (digestOf a clock))) (λ s. rw s (unlike-blank (digestOf a clock))))))
 
 -- where the code refuses: a clause of 26 that does not hold
 pub refused : (cs : Conditions) (clock : ℕ) → (Sound cs clock → ⊥) → false ≡ conditionsSound cs clock

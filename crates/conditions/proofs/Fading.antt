@@ -13,7 +13,7 @@ use Rattle.rules.proofs.Ages.{within-before}
 use Rattle.rules.proofs.Bools.{both-true, or-cases, or-left, or-right, refuted, true-false}
 use Rattle.conditions.specs.declared.Condition.{Condition}
 use Rattle.conditions.specs.declared.Conditions.{Conditions}
-use Rattle.conditions.specs.Standing.{filled, fresh, stands, countAt}
+use Rattle.conditions.specs.Standing.{filled, fresh, placeStands, countAt}
 use Rattle.conditions.specs.Soundness.{fieldsSound, placeSound, placesSound, clash, noClash, conditionsSound}
 
 bit-most : (b : Bool) → bitOf b ≤ 1
@@ -24,22 +24,22 @@ bit-most false = omega arith
 pub at-most-four : (cs : Conditions) (now : ℕ) → countAt cs now ≤ 4
 unfolding countAt
 at-most-four cs now =
-    let a = bit-most (stands (cs .first) now) in
-    let b = bit-most (stands (cs .second) now) in
-    let c = bit-most (stands (cs .third) now) in
-    let d = bit-most (stands (cs .fourth) now) in
+    let a = bit-most (placeStands (cs .first) now) in
+    let b = bit-most (placeStands (cs .second) now) in
+    let c = bit-most (placeStands (cs .third) now) in
+    let d = bit-most (placeStands (cs .fourth) now) in
     omega arith
 
 -- what the sound fields of a filled place say
 pub record PlaceSays (c : Condition) (clock : ℕ) : Type 0 where
   pub kind : c .key .kind ≤ 2
   pub present : c .key .present < 2
-  pub link : c .link < 2
+  pub linkdown : c .linkdown < 2
   pub low : 1 ≤ c .refresh
   pub high : c .refresh ≤ 20
   pub date : c .at ≤ clock
 
-fields-say : (c : Condition) (clock : ℕ) → fieldsSound (c .key .kind) (c .key .present) (c .link) (c .refresh) (c .at) clock ≡ true → PlaceSays c clock
+fields-say : (c : Condition) (clock : ℕ) → fieldsSound (c .key .kind) (c .key .present) (c .linkdown) (c .refresh) (c .at) clock ≡ true → PlaceSays c clock
 fields-say c clock e =
     let a = and-both _ _ e in
     let b = and-both _ _ (a .0) in
@@ -49,18 +49,18 @@ fields-say c clock e =
     record {
       kind = leb-true _ _ (g .0);
       present = ltb-true _ _ (g .1);
-      link = ltb-true _ _ (f .1);
+      linkdown = ltb-true _ _ (f .1);
       low = leb-true _ _ (d .1);
       high = leb-true _ _ (b .1);
       date = leb-true _ _ (a .1);
     }
 
-say-fields : (c : Condition) (clock : ℕ) → PlaceSays c clock → fieldsSound (c .key .kind) (c .key .present) (c .link) (c .refresh) (c .at) clock ≡ true
+say-fields : (c : Condition) (clock : ℕ) → PlaceSays c clock → fieldsSound (c .key .kind) (c .key .present) (c .linkdown) (c .refresh) (c .at) clock ≡ true
 say-fields c clock s =
     rw (
       le-leb _ _ (s .kind),
       lt-ltb (c .key .present) 2 (s .present),
-      lt-ltb (c .link) 2 (s .link),
+      lt-ltb (c .linkdown) 2 (s .linkdown),
       le-leb 1 (c .refresh) (s .low),
       le-leb _ _ (s .high),
       le-leb _ _ (s .date),
@@ -84,8 +84,8 @@ module _ (now later : ℕ) (h : now ≤ later) where
   unfolding fresh
   fresh-before c e = within-before _ _ now later h e
 
-  pub stands-before : (c : Condition) → stands c later ≡ true → stands c now ≡ true
-  unfolding stands
+  pub stands-before : (c : Condition) → placeStands c later ≡ true → placeStands c now ≡ true
+  unfolding placeStands
   stands-before c e = let a = and-both (filled c) (fresh c later) e in both-true (a .0) (fresh-before c (a .1))
 
   place-later : (c : Condition) → placeSound c now ≡ true → placeSound c later ≡ true
@@ -95,7 +95,7 @@ module _ (now later : ℕ) (h : now ≤ later) where
       (λ z. let s = fields-say c now z in
       or-right (not (filled c))
       (say-fields c later
-      (record { kind = s .kind; present = s .present; link = s .link; low = s .low; high = s .high; date = omega (arith, s .date) })))
+      (record { kind = s .kind; present = s .present; linkdown = s .linkdown; low = s .low; high = s .high; date = omega (arith, s .date) })))
       (or-cases (not (filled c)) _ e)
 
   clash-before : (a b : Condition) → clash a b later ≡ true → clash a b now ≡ true

@@ -15,7 +15,7 @@ use Rattle.rules.proofs.Bools.{split, both-true, refuted, true-false}
 use Rattle.rules.proofs.SameKeys.{same-sym, key-kind, key-present}
 use Rattle.conditions.specs.declared.Condition.{Condition}
 use Rattle.conditions.specs.declared.Conditions.{Conditions}
-use Rattle.conditions.specs.Standing.{filled, fresh, stands}
+use Rattle.conditions.specs.Standing.{filled, fresh, placeStands}
 use Rattle.conditions.specs.Soundness.{placeSound, placesSound, clash, noClash, conditionsSound}
 use Rattle.conditions.specs.Taking.{empty, without, forgotten, freePlace, placed, conditionOf, takenIn}
 use Rattle.conditions.proofs.Fading.{PlaceSays, place-filled, place-empty}
@@ -198,7 +198,7 @@ taken-sound cs f now k l h e =
     record {
       kind = rw (key-kind (f .kind) (f .interface)) k;
       present = omega (arith, key-present (f .kind) (f .interface));
-      link = bit-small (f .link);
+      linkdown = bit-small (f .linkdown);
       low = l;
       high = h;
       date = omega arith;

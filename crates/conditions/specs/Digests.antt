@@ -7,7 +7,7 @@ use lib.Dec.{eqb}
 use Rattle.rules.specs.declared.Key.{Key}
 use Rattle.conditions.specs.declared.Condition.{Condition}
 use Rattle.conditions.specs.declared.sound.Digest.{Digest}
-use Rattle.conditions.specs.Standing.{stands}
+use Rattle.conditions.specs.Standing.{placeStands}
 use Rattle.conditions.specs.Soundness.{placeSound}
 
 -- of a place where nothing stands, whether its fields are sound
@@ -27,7 +27,7 @@ keyDigest k = record { sound = true; tag = tagOf k; word = wordOf k }
 
 -- the key of a sound condition that stands, and nothing of any other
 unfoldable pub digestOf : Condition → ℕ → Digest
-digestOf c clock = cond (placeSound c clock) (cond (stands c clock) (keyDigest (c .key)) (blankOf true)) (blankOf false)
+digestOf c clock = cond (placeSound c clock) (cond (placeStands c clock) (keyDigest (c .key)) (blankOf true)) (blankOf false)
 
 -- something stands, and tags and words are equal
 unfoldable pub alike : Digest → Digest → Bool

@@ -18,17 +18,17 @@ filled c = not (eqb (c .key .kind) 0)
 unfoldable pub fresh : Condition → ℕ → Bool
 fresh c now = within (c .at) (lifetime (c .refresh)) now
 
-unfoldable pub stands : Condition → ℕ → Bool
-stands c now = filled c && fresh c now
+unfoldable pub placeStands : Condition → ℕ → Bool
+placeStands c now = filled c && fresh c now
 
 -- the number of conditions that stand
 unfoldable pub countAt : Conditions → ℕ → ℕ
 countAt cs now =
-    bitOf (stands (cs .first) now) + bitOf (stands (cs .second) now) + bitOf (stands (cs .third) now) + bitOf (stands (cs .fourth) now)
+    bitOf (placeStands (cs .first) now) + bitOf (placeStands (cs .second) now) + bitOf (placeStands (cs .third) now) + bitOf (placeStands (cs .fourth) now)
 
 -- a condition that stands and that the session follows (for AIS, its latest message had L)
 unfoldable pub followedAt : Settings → Condition → ℕ → Bool
-followedAt s c now = stands c now && follows s (c .key .kind) (eqb (c .link) 1)
+followedAt s c now = placeStands c now && follows s (c .key .kind) (eqb (c .linkdown) 1)
 
 unfoldable pub anyFollowed : Settings → Conditions → ℕ → Bool
 anyFollowed s cs now =

@@ -10,11 +10,11 @@ use Rattle.rules.specs.declared.Key.{Key}
 use Rattle.rules.specs.Conditions.{keyOf, sameKey}
 use Rattle.conditions.specs.declared.Condition.{Condition}
 use Rattle.conditions.specs.declared.Conditions.{Conditions}
-use Rattle.conditions.specs.Standing.{stands}
+use Rattle.conditions.specs.Standing.{placeStands}
 
 -- a place that holds nothing
 abbrev pub empty : Condition
-empty = record { at = 0; key = record { node = 0; interface = 0; kind = 0; present = 0 }; refresh = 0; link = 0 }
+empty = record { at = 0; key = record { node = 0; interface = 0; kind = 0; present = 0 }; refresh = 0; linkdown = 0 }
 
 -- no condition: what a session starts with
 abbrev pub noConditions : Conditions
@@ -35,10 +35,10 @@ forgotten cs key =
 -- the first place in which no condition stands, counted from 0; 4 where four stand
 unfoldable pub freePlace : Conditions → ℕ → ℕ
 freePlace cs now =
-    cond (stands (cs .first) now)
-    (cond (stands (cs .second) now)
-    (cond (stands (cs .third) now)
-    (cond (stands (cs .fourth) now) 4 3) 2) 1) 0
+    cond (placeStands (cs .first) now)
+    (cond (placeStands (cs .second) now)
+    (cond (placeStands (cs .third) now)
+    (cond (placeStands (cs .fourth) now) 4 3) 2) 1) 0
 
 -- a condition put into a place; there is no place 4
 unfoldable pub placed : Conditions → ℕ → Condition → Conditions
@@ -52,7 +52,7 @@ placed cs place c =
 
 -- the condition that a message with R clear tells of, dated from its reading
 abbrev pub conditionOf : Fault → ℕ → Condition
-conditionOf f now = record { at = now; key = keyOf f; refresh = f .refresh; link = bitOf (f .link) }
+conditionOf f now = record { at = now; key = keyOf f; refresh = f .refresh; linkdown = bitOf (f .linkdown) }
 
 -- refusal 9: R clear, the key does not stand, and four others do
 unfoldable pub faultAnswer : Conditions → Fault → ℕ → ℕ

@@ -19,7 +19,7 @@ pub struct Condition {
     pub at: u64,
     pub key: Key,
     pub refresh: u8,
-    pub link: u8,
+    pub linkdown: u8,
 }
 
 #[repr(C)]

@@ -12,8 +12,8 @@ ghost use lib.Dec.{eqb};
 ghost use Rattle.conditions.specs.Soundness.{fieldsSound, placeSound, conditionsSound};
 ghost use Rattle.conditions.specs.Digests.{blankOf, keyDigest, digestOf, alike};
 
-fn fields_sound(kind: u8, present: u8, link: u8, refresh: u8, at: u64, clock: u64) -> bool
-    ensures { λ r. ⌜ r ≡ fieldsSound kind present link refresh at clock ⌝ }
+fn fields_sound(kind: u8, present: u8, linkdown: u8, refresh: u8, at: u64, clock: u64) -> bool
+    ensures { λ r. ⌜ r ≡ fieldsSound kind present linkdown refresh at clock ⌝ }
 {
     if 2 < kind {
         return false;
@@ -21,7 +21,7 @@ fn fields_sound(kind: u8, present: u8, link: u8, refresh: u8, at: u64, clock: u6
     if 2 <= present {
         return false;
     }
-    if 2 <= link {
+    if 2 <= linkdown {
         return false;
     }
     if refresh < 1 {
@@ -39,7 +39,14 @@ fn place_sound(c: Condition, clock: u64) -> bool
     if c.key.kind == 0 {
         return true;
     }
-    fields_sound(c.key.kind, c.key.present, c.link, c.refresh, c.at, clock)
+    fields_sound(
+        c.key.kind,
+        c.key.present,
+        c.linkdown,
+        c.refresh,
+        c.at,
+        clock,
+    )
 }
 
 // What is kept of a place once it has been looked at: whether its fields are sound, and, where its
@@ -86,7 +93,14 @@ fn digest_of(c: Condition, clock: u64) -> Digest
     if c.key.kind == 0 {
         return blank(true);
     }
-    if fields_sound(c.key.kind, c.key.present, c.link, c.refresh, c.at, clock) {
+    if fields_sound(
+        c.key.kind,
+        c.key.present,
+        c.linkdown,
+        c.refresh,
+        c.at,
+        clock,
+    ) {
         if is_fresh(c, clock) {
             let key = c.key;
             return key_digest(key);

@@ -6,7 +6,7 @@ use octets::both;
 use rules::Settings;
 ghost use mathlib.Core.Path.{_≡_};
 ghost use mathlib.Core.Bool.{_||_};
-ghost use Rattle.conditions.specs.Standing.{fresh, stands, countAt, followedAt, anyFollowed};
+ghost use Rattle.conditions.specs.Standing.{fresh, placeStands, countAt, followedAt, anyFollowed};
 
 pub fn is_fresh(c: Condition, now: u64) -> bool
     ensures { λ r. ⌜ r ≡ fresh c now ⌝ }
@@ -15,7 +15,7 @@ pub fn is_fresh(c: Condition, now: u64) -> bool
 }
 
 pub fn does_stand(c: Condition, now: u64) -> bool
-    ensures { λ r. ⌜ r ≡ stands c now ⌝ }
+    ensures { λ r. ⌜ r ≡ placeStands c now ⌝ }
 {
     if c.key.kind == 0 {
         return false;
@@ -57,8 +57,8 @@ fn followed_at(s: Settings, c: Condition, now: u64) -> bool
     ensures { λ r. ⌜ r ≡ followedAt s c now ⌝ }
 {
     let standing = does_stand(c, now);
-    let link = c.link == 1;
-    both(standing, rules::is_followed(s, c.key.kind, link))
+    let linkdown = c.linkdown == 1;
+    both(standing, rules::is_followed(s, c.key.kind, linkdown))
 }
 
 // Whether a condition that the session follows stands.

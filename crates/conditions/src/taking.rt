@@ -23,7 +23,7 @@ fn empty_place() -> Condition
         at: 0,
         key: key,
         refresh: 0,
-        link: 0,
+        linkdown: 0,
     }
 }
 
@@ -137,12 +137,12 @@ fn condition_of(f: Fault, now: u64) -> Condition
     ensures { λ r. ⌜ r ≡ conditionOf f now ⌝ }
 {
     let key = rules::key_of(f);
-    let link = bit(f.link);
+    let linkdown = bit(f.linkdown);
     Condition {
         at: now,
         key: key,
         refresh: f.refresh,
-        link: link,
+        linkdown: linkdown,
     }
 }
 

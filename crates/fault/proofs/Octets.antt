@@ -22,9 +22,9 @@ pub global-small : (g : GlobalId) → length (globalTlv g) ≤ 6
 global-small NoGlobalId = omega arith
 global-small (AGlobalId global) = omega arith
 
-module _ (kind refresh : ℕ) (link removed : Bool) where
+module _ (kind refresh : ℕ) (linkdown removed : Bool) where
   cut : (i : IfId) (g : GlobalId)
-      → let f : Fault = record { kind = kind; link = link; removed = removed; refresh = refresh; interface = i; global = g } in
+      → let f : Fault = record { kind = kind; linkdown = linkdown; removed = removed; refresh = refresh; interface = i; global = g } in
       take (9 + totalOf f) (allOctets f) ≡ faultOctets f
   unfolding allOctets faultOctets
   cut NoIfId NoGlobalId = refl
@@ -34,7 +34,7 @@ module _ (kind refresh : ℕ) (link removed : Bool) where
 
 -- the octets that are written are the front of the 25
 pub front : (f : Fault) → take (9 + totalOf f) (allOctets f) ≡ faultOctets f
-front f = cut (f .kind) (f .refresh) (f .link) (f .removed) (f .interface) (f .global)
+front f = cut (f .kind) (f .refresh) (f .linkdown) (f .removed) (f .interface) (f .global)
 
 -- head, IF_ID and Global_ID, put one after the other
 pub puts : {x y z head interface global head′ interface′ global′ : List ℕ} {n n′ : ℕ}

@@ -68,13 +68,13 @@ reads : (m : List ℕ) (t : Tlvs) (f : Fault) → tlvsIn m ≡ t → refusalWith
 unfolding readFault faultRefusal faultOf
 reads m t f e r g = rw (e, r, g)
 
-link-back : (link removed : Bool) → eqb ((bitOf link * 2 + bitOf removed) / 2 % 2) 1 ≡ link
+link-back : (linkdown removed : Bool) → eqb ((bitOf linkdown * 2 + bitOf removed) / 2 % 2) 1 ≡ linkdown
 link-back true true = refl
 link-back true false = refl
 link-back false true = refl
 link-back false false = refl
 
-removed-back : (link removed : Bool) → eqb ((bitOf link * 2 + bitOf removed) % 2) 1 ≡ removed
+removed-back : (linkdown removed : Bool) → eqb ((bitOf linkdown * 2 + bitOf removed) % 2) 1 ≡ removed
 removed-back true true = refl
 removed-back true false = refl
 removed-back false true = refl
@@ -83,13 +83,13 @@ removed-back false false = refl
 same-met : (at : ℕ) (p q : Bool) {a b c a′ b′ c′ : ℕ} → a ≡ a′ → b ≡ b′ → c ≡ c′ → met at p a b q c ≡ met at p a′ b′ q c′
 same-met at p q x y z = rw (x, y, z)
 
-module _ (kind refresh : ℕ) (link removed : Bool) (pad : List ℕ) where
+module _ (kind refresh : ℕ) (linkdown removed : Bool) (pad : List ℕ) where
   abbrev fault : IfId → GlobalId → Fault
-  fault i g = record { kind = kind; link = link; removed = removed; refresh = refresh; interface = i; global = g }
+  fault i g = record { kind = kind; linkdown = linkdown; removed = removed; refresh = refresh; interface = i; global = g }
 
   -- the nine octets before the TLVs
   abbrev message : ℕ → List ℕ → List ℕ
-  message total tlvs = headerOctets faultChannel (0x10 ∷ kind ∷ (bitOf link * 2 + bitOf removed) ∷ refresh ∷ total ∷ tlvs)
+  message total tlvs = headerOctets faultChannel (0x10 ∷ kind ∷ (bitOf linkdown * 2 + bitOf removed) ∷ refresh ∷ total ∷ tlvs)
 
   head-says : RangeSays kind refresh → (total : ℕ) (tlvs : List ℕ) → total ≤ length tlvs → Says (message total tlvs)
   head-says r total tlvs h =
@@ -107,20 +107,20 @@ module _ (kind refresh : ℕ) (link removed : Bool) (pad : List ℕ) where
   back NoIfId NoGlobalId si sg r =
       let m = message 0 pad in
       reads m start _ (none m 9 (omega arith)) (passes m start (head-says r 0 pad (omega arith)) refl)
-      (rw (link-back link removed, removed-back link removed))
+      (rw (link-back linkdown removed, removed-back linkdown removed))
   back NoIfId (AGlobalId global) si sg r =
       let tlvs : List ℕ = 2 ∷ 4 ∷ octetsOf 4 global pad in
       let m = message 6 tlvs in
       let t = met 15 false 0 0 true global in
       reads m t _ (with-global m refl refl ∙ same-met 15 false true refl refl (read-of 4 global [] sg)) (passes m t (head-says r 6 tlvs (omega arith)) refl)
-      (rw (link-back link removed, removed-back link removed))
+      (rw (link-back linkdown removed, removed-back linkdown removed))
   back (AnIfId node interface) NoGlobalId si sg r =
       let tlvs : List ℕ = 1 ∷ 8 ∷ octetsOf 4 node (octetsOf 4 interface pad) in
       let m = message 10 tlvs in
       let t = met 19 true node interface false 0 in
       reads m t _ (with-if m refl refl ∙ same-met 19 true false (read-of 4 node [] (si .0)) (read-of 4 interface [] (si .1)) refl)
       (passes m t (head-says r 10 tlvs (omega arith)) refl)
-      (rw (link-back link removed, removed-back link removed))
+      (rw (link-back linkdown removed, removed-back linkdown removed))
   back (AnIfId node interface) (AGlobalId global) si sg r =
       let tlvs : List ℕ = 1 ∷ 8 ∷ octetsOf 4 node (octetsOf 4 interface (2 ∷ 4 ∷ octetsOf 4 global pad)) in
       let m = message 16 tlvs in
@@ -129,12 +129,12 @@ module _ (kind refresh : ℕ) (link removed : Bool) (pad : List ℕ) where
       (with-both m refl refl refl refl
       ∙ same-met 25 true true (read-of 4 node [] (si .0)) (read-of 4 interface [] (si .1)) (read-of 4 global [] sg))
       (passes m t (head-says r 16 tlvs (omega arith)) refl)
-      (rw (link-back link removed, removed-back link removed))
+      (rw (link-back linkdown removed, removed-back linkdown removed))
 
 -- what is written reads back, whatever stands behind it
 pub read-written : (f : Fault) (pad : List ℕ) → Sized f → fieldRefusal f ≡ 0 → readFault (faultOctets f ++ pad) ≡ accepted f
 read-written f pad s e =
-    back (f .kind) (f .refresh) (f .link) (f .removed) pad (f .interface) (f .global) (s .interface) (s .global) (range-says 9 _ _ e)
+    back (f .kind) (f .refresh) (f .linkdown) (f .removed) pad (f .interface) (f .global) (s .interface) (s .global) (range-says 9 _ _ e)
 
 -- refusal 10 is for no other fields: what would be read is written
 pub refused-exactly : (f : Fault) → faultRefusal (faultOctets f) ≡ 0 → fieldRefusal f ≡ 0

@@ -64,7 +64,7 @@ unfoldable pub fieldsWith : List ℕ → Tlvs → Fault
 fieldsWith m t =
     record {
       kind = getD m 5 0;
-      link = eqb (getD m 6 0 / 2 % 2) 1;
+      linkdown = eqb (getD m 6 0 / 2 % 2) 1;
       removed = eqb (getD m 6 0 % 2) 1;
       refresh = getD m 7 0;
       interface = ifIdOf (t .ifid) (t .node) (t .interface);

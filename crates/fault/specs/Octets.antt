@@ -36,7 +36,7 @@ totalOf f = length (ifTlv (f .interface)) + length (globalTlv (f .global))
 abbrev pub headOctets : Fault → List ℕ → List ℕ
 headOctets f tlvs =
     headerOctets faultChannel
-    (0x10 ∷ f .kind ∷ (bitOf (f .link) * 2 + bitOf (f .removed)) ∷ f .refresh ∷ totalOf f ∷ tlvs)
+    (0x10 ∷ f .kind ∷ (bitOf (f .linkdown) * 2 + bitOf (f .removed)) ∷ f .refresh ∷ totalOf f ∷ tlvs)
 
 -- the octets of a plain fault message
 unfoldable pub faultOctets : Fault → List ℕ

@@ -21,11 +21,11 @@ pub enum GlobalId {
     Present(u32),
 }
 
-// What a fault message says. kind is 1 for AIS and 2 for LKR; link is the L flag, link down;
+// What a fault message says. kind is 1 for AIS and 2 for LKR; linkdown is the L flag, link down;
 // removed is the R flag, the condition is removed; refresh is in seconds.
 pub struct Fault {
     pub kind: u8,
-    pub link: bool,
+    pub linkdown: bool,
     pub removed: bool,
     pub refresh: u8,
     pub interface: IfId,

@@ -69,7 +69,7 @@ fn fields_with(m: &[u8], t: Tlvs) -> Fault
     let flags = get_u8(m, 6);
     Fault {
         kind: get_u8(m, 5),
-        link: flags / 2 % 2 == 1,
+        linkdown: flags / 2 % 2 == 1,
         removed: flags % 2 == 1,
         refresh: get_u8(m, 7),
         interface: if_id(t.ifid, t.node, t.interface),

@@ -88,7 +88,7 @@ fn global_octets(g: GlobalId) -> [u8; 6]
 fn head_octets(f: Fault) -> [u8; 9]
     ensures { λ r. ⌜ r ≡ headOctets f [] ⌝ }
 {
-    let flags = bit(f.link) * 2 + bit(f.removed);
+    let flags = bit(f.linkdown) * 2 + bit(f.removed);
     [
         0x10,
         0,

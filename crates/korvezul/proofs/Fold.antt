@@ -24,10 +24,10 @@ use Rattle.table.specs.declared.Head.{Head}
 use Rattle.table.specs.Table.{Table, answer, next, emptied}
 use Rattle.step.specs.Stepping as Row
 use Rattle.meaning.specs.Histories.{History, start, after}
-use Rattle.meaning.specs.Worlds.{World, step, play, begin, pastOf, tableOf}
+use Rattle.meaning.specs.Worlds.{World, step, play, begin, pastOf, tableAfter}
 use Rattle.meaning.specs.Demand.{Demand3}
 use Rattle.meaning.proofs.Demand.{demand3}
-use Rattle.korvezul.specs.Calling.{Called, called, reportSaid, Emptied, emptying}
+use Rattle.korvezul.specs.Calling.{Called, called, saidIn, Emptied, emptying}
 use Rattle.korvezul.proofs.korvezul_empty as empty
 use Rattle.korvezul.proofs.korvezul_tick as tick
 use Rattle.korvezul.proofs.korvezul_open as «open»
@@ -112,8 +112,8 @@ module _ {M : Type 1} (𝓤 : URA M) (H : Heap 𝓤) (A : Atoms 𝓤) (mem : Mem
   receive-is-step κs a g r e = fact-mono 𝓤 _ _ (one (lent (now (a .0)) (now (a .1 .0))) (lent (now (e .0)) (now (e .1 .0))) (On (a .1 .1 .0) (Receive (now (a .1 .1 .1 .0)) (a .1 .1 .1 .1 .0))) (numberOnly (On (a .1 .1 .0) (Receive (now (a .1 .1 .1 .0)) (a .1 .1 .1 .1 .0))) r))
 
   pub report-is-step : (κs : Lfts (report.ended .signature .lifetimes)) (a : Args (report.ended .signature) κs) (g : report.clauses 𝓤 H A mem run κs a .ghost) (r : Res (report.ended .signature) κs) (e : AtExit report.ended κs)
-      → ent 𝓤 (report.clauses 𝓤 H A mem run κs a .ensures g r e) (fact 𝓤 (step-of (lent (now (a .0)) (now (a .1 .0))) (On (a .1 .1 .0) ReportOn) (reportSaid r) (lent (now (e .0)) (now (e .1 .0)))))
-  report-is-step κs a g r e = fact-mono 𝓤 _ _ (one (lent (now (a .0)) (now (a .1 .0))) (lent (now (e .0)) (now (e .1 .0))) (On (a .1 .1 .0) ReportOn) (reportSaid r))
+      → ent 𝓤 (report.clauses 𝓤 H A mem run κs a .ensures g r e) (fact 𝓤 (step-of (lent (now (a .0)) (now (a .1 .0))) (On (a .1 .1 .0) ReportOn) (saidIn r) (lent (now (e .0)) (now (e .1 .0)))))
+  report-is-step κs a g r e = fact-mono 𝓤 _ _ (one (lent (now (a .0)) (now (a .1 .0))) (lent (now (e .0)) (now (e .1 .0))) (On (a .1 .1 .0) ReportOn) (saidIn r))
 
   pub write-cc-is-step : (κs : Lfts (write-cc.ended .signature .lifetimes)) (a : Args (write-cc.ended .signature) κs) (g : write-cc.clauses 𝓤 H A mem run κs a .ghost) (r : Res (write-cc.ended .signature) κs) (e : AtExit write-cc.ended κs)
       → ent 𝓤 (write-cc.clauses 𝓤 H A mem run κs a .ensures g r e) (fact 𝓤 (step-of (lent (now (a .0)) (now (a .1 .0))) (On (a .1 .1 .0) (WriteCc (now (a .1 .1 .1 .0)))) (writes (record { answer = r; buffer = now (e .1 .1 .1 .0) })) (lent (now (e .0)) (now (e .1 .0)))))
@@ -125,7 +125,7 @@ module _ {M : Type 1} (𝓤 : URA M) (H : Heap 𝓤) (A : Atoms 𝓤) (mem : Mem
 
 -- demand 3 of a run of the public calls on a row made empty: of the last table, and of everything that was said
 pub demand3-run : (row : List Session) → length row ≡ 64 → (ms : List Made) (v : Table) → Run (emptied row) ms v
-    → Demand3 row (callsOf ms) × ((tableOf row (callsOf ms) ≡ v) × (pastOf row (callsOf ms) ≡ told start ms))
-unfolding tableOf pastOf begin
+    → Demand3 row (callsOf ms) × ((tableAfter row (callsOf ms) ≡ v) × (pastOf row (callsOf ms) ≡ told start ms))
+unfolding tableAfter pastOf begin
 demand3-run row l ms v r =
     (demand3 row l (callsOf ms), (ap (λ (w : World). w .table) (run-is-fold r start), ap (λ (w : World). w .past) (run-is-fold r start)))

@@ -74,7 +74,7 @@ global-id-back (AGlobalId n) = refl
 -- a fault message in numbers, and back
 pub fault-back : (f : Fault) → faultFrom (faultFields f) ≡ f
 fault-back f =
-    rw (bit-back (f .link) (bitOf (f .link)) refl, bit-back (f .removed) (bitOf (f .removed)) refl, if-id-back (f .kind) (f .interface), global-id-back (f .global))
+    rw (bit-back (f .linkdown) (bitOf (f .linkdown)) refl, bit-back (f .removed) (bitOf (f .removed)) refl, if-id-back (f .kind) (f .interface), global-id-back (f .global))
 
 -- the stretch of an accepted CV stands at the place that its reader hands out
 pub part-stands : (m : List ℕ) → cvRefusal m ≡ 0 → mepPart m ≡ take 16 (drop (cvRead (mepAt m) (readCv m) .part) m)

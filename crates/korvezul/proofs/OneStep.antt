@@ -17,7 +17,7 @@ use Rattle.step.specs.Requests.{requestOf}
 use Rattle.step.specs.Stepping.{tableOf, rowStep, rowAfter}
 use Rattle.step.proofs.TableStep.{saidOf, step-said, step-table}
 use Rattle.korvezul.specs.declared.ReportAnswer.{ReportAnswer}
-use Rattle.korvezul.specs.Calling.{Called, called, reportSaid, reportOf}
+use Rattle.korvezul.specs.Calling.{Called, called, saidIn, reportOf}
 
 module _ (row : List Session) (head : Head) (long : length row < 2 ^ 64) (c : Call) (o : Outcome) (zs : List Session)
     (e : o ≡ rowStep row head (requestOf c) .outcome) (e′ : zs ≡ rowAfter row head (requestOf c)) where
@@ -29,5 +29,5 @@ module _ (row : List Session) (head : Head) (long : length row < 2 ^ 64) (c : Ca
       λ i. record { said = s i; table = t i }
 
 -- a report says what its outcome says
-pub report-says : (l : ℕ) (o : Outcome) (r : ReportAnswer) → r ≡ reportOf o → reportSaid r ≡ saidOf (On l ReportOn) o
-report-says l o r e = ap reportSaid e ∙ split (eqb (o .answer) 0) (λ z. rw z) (λ z. rw z)
+pub report-says : (l : ℕ) (o : Outcome) (r : ReportAnswer) → r ≡ reportOf o → saidIn r ≡ saidOf (On l ReportOn) o
+report-says l o r e = ap saidIn e ∙ split (eqb (o .answer) 0) (λ z. rw z) (λ z. rw z)

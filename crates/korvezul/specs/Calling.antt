@@ -27,8 +27,8 @@ abbrev pub called : Table → Call → Called
 called t c = record { said = answer t c; table = next t c }
 
 -- the number and the seven numbers of a report's answer
-abbrev pub reportSaid : ReportAnswer → Said
-reportSaid r =
+abbrev pub saidIn : ReportAnswer → Said
+saidIn r =
     record {
       number = r .answer;
       report = record { state = r .state; crossing = r .crossing; loss = r .loss; alarm = r .alarm; rdi = r .rdi; blocked = r .blocked; conditions = r .conditions };

@@ -70,7 +70,7 @@ faultFields f =
       interface = keyOf f .interface;
       global = globalFields (f .global) .global;
       kind = f .kind;
-      link = bitOf (f .link);
+      linkdown = bitOf (f .linkdown);
       removed = bitOf (f .removed);
       refresh = f .refresh;
       ifid = keyOf f .present;
@@ -87,7 +87,7 @@ abbrev pub faultFrom : FaultFields → Fault
 faultFrom f =
     record {
       kind = f .kind;
-      link = eqb (f .link) 1;
+      linkdown = eqb (f .linkdown) 1;
       removed = eqb (f .removed) 1;
       refresh = f .refresh;
       interface = ifIdFrom (f .ifid) (f .node) (f .interface);
@@ -97,7 +97,7 @@ faultFrom f =
 -- refusal 10 for a mark above 1: L, R, IF_ID, Global_ID
 unfoldable pub faultMarks : FaultFields → ℕ
 faultMarks f =
-    need (leb (f .link) 1) 10
+    need (leb (f .linkdown) 1) 10
     (need (leb (f .removed) 1) 10
     (need (leb (f .ifid) 1) 10
     (need (leb (f .globalid) 1) 10 0)))

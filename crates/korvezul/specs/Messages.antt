@@ -26,7 +26,7 @@ noMep = record { kind = 0; global = 0; node = 0; local = 0 }
 
 abbrev pub noFault : FaultFields
 noFault =
-    record { node = 0; interface = 0; global = 0; kind = 0; link = 0; removed = 0; refresh = 0; ifid = 0; globalid = 0 }
+    record { node = 0; interface = 0; global = 0; kind = 0; linkdown = 0; removed = 0; refresh = 0; ifid = 0; globalid = 0 }
 
 -- what the reader of a CC says: 0 and the fields, or the refusal's number alone
 abbrev pub ccRead : Answer Packet → CcRead

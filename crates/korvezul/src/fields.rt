@@ -34,7 +34,7 @@ pub struct FaultFields {
     pub interface: u32,
     pub global: u32,
     pub kind: u8,
-    pub link: u8,
+    pub linkdown: u8,
     pub removed: u8,
     pub refresh: u8,
     pub ifid: u8,
@@ -119,7 +119,7 @@ pub fn fault_fields(f: Fault) -> FaultFields
         interface: key.interface,
         global: global.global,
         kind: f.kind,
-        link: bit(f.link),
+        linkdown: bit(f.linkdown),
         removed: bit(f.removed),
         refresh: f.refresh,
         ifid: key.present,
@@ -150,7 +150,7 @@ pub fn fault_from(f: FaultFields) -> Fault
 {
     Fault {
         kind: f.kind,
-        link: f.link == 1,
+        linkdown: f.linkdown == 1,
         removed: f.removed == 1,
         refresh: f.refresh,
         interface: if_id_from(f.ifid, f.node, f.interface),
@@ -163,5 +163,5 @@ pub fn fault_marks(f: FaultFields) -> u32
     ensures { λ r. ⌜ r ≡ faultMarks f ⌝ }
 {
     let last = need(f.ifid <= 1, 10, need(f.globalid <= 1, 10, 0));
-    need(f.link <= 1, 10, need(f.removed <= 1, 10, last))
+    need(f.linkdown <= 1, 10, need(f.removed <= 1, 10, last))
 }

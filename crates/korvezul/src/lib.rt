@@ -30,7 +30,7 @@ use table::Head;
 ghost use mathlib.Core.Path.{_≡_};
 ghost use Rattle.rules.specs.Calls.{Tick, Open, On, Close, Lock, Unlock, Receive, ReportOn, WriteCc, WriteCv, numberOnly, writes};
 ghost use Rattle.step.specs.Stepping.{tableOf, rowStep, rowAfter};
-ghost use Rattle.korvezul.specs.Calling.{called, reportSaid, emptying};
+ghost use Rattle.korvezul.specs.Calling.{called, saidIn, emptying};
 
 // A report's answer, numbers alone so that it can be returned to any host: 0 and the seven numbers
 // of the report, or a refusal and seven noughts.
@@ -159,7 +159,7 @@ pub extern "C" fn korvezul_receive(
 // The report on a label, at the clock.
 #[no_mangle]
 pub extern "C" fn korvezul_report(row: &mut [Session], head: &mut Head, label: u32) -> ReportAnswer
-    ensures { λ r. ⌜ record { said = reportSaid r; table = tableOf (now (row .exit)) (now (head .exit)) } ≡ called (tableOf (now (row .entry)) (now (head .entry))) (On label ReportOn) ⌝ }
+    ensures { λ r. ⌜ record { said = saidIn r; table = tableOf (now (row .exit)) (now (head .exit)) } ≡ called (tableOf (now (row .entry)) (now (head .entry))) (On label ReportOn) ⌝ }
 {
     let q = report_request(label);
     let o = obey_lent(row, head, q);

@@ -75,7 +75,7 @@ fn no_fault() -> FaultFields
         interface: 0,
         global: 0,
         kind: 0,
-        link: 0,
+        linkdown: 0,
         removed: 0,
         refresh: 0,
         ifid: 0,

@@ -27,7 +27,7 @@ use Rattle.meaning.specs.Stories.{Story}
 use Rattle.meaning.specs.Standing.{crossing, loss, stands, keysOf, conditions, report}
 use Rattle.meaning.specs.Histories.{History, start, after, clockOf, story, labels}
 use Rattle.meaning.specs.Answers.{receivedNumber, receiveNumber, actSaid, saysOf, says}
-use Rattle.meaning.specs.Accounts.{Took, Heard, AccountsForCrossing, AccountsForLoss, AccountsForCondition, AccountsForHeldBack}
+use Rattle.meaning.specs.Accounts.{Took, ReceivedSince, AccountsForCrossing, AccountsForLoss, AccountsForCondition, AccountsForHeldBack}
 use Rattle.meaning.proofs.Crossings.{crossing-accounted}
 use Rattle.meaning.proofs.Conditions.{condition-accounted}
 use Rattle.meaning.proofs.Losses.{loss-accounted}

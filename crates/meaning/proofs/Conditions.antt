@@ -23,7 +23,7 @@ use Rattle.rules.proofs.Bools.{split, no-way, both-true, true-false}
 use Rattle.meaning.specs.Stories.{Story, got, settingsOf}
 use Rattle.meaning.specs.Standing.{standsBy, stands}
 use Rattle.meaning.specs.Histories.{History, start, after, story}
-use Rattle.meaning.specs.Accounts.{size, Opening, Heard, AccountsForCondition}
+use Rattle.meaning.specs.Accounts.{size, Opening, ReceivedSince, AccountsForCondition}
 use Rattle.meaning.proofs.Positions.{Same, messaging, flipped, carried, took-below, none-beyond, opening-kept, heard-kept, heard-on, opening-settings, none-heard, opening-after, opening-before, heard-new, heard-cases, Turn, byOpen, byMessage, byOther, turn, none-open, opening-told}
 
 -- a condition that stands has a call that accounts for it, and each such call shows that it stands
@@ -56,7 +56,7 @@ account-kept S A =
     record {
       o = A .o;
       settings = A .settings;
-      opened = A .opened;
+      openedAt = A .openedAt;
       opening = opening-kept S (λ u. refl) (A .opening);
       reading = A .reading;
       fault = A .fault;
@@ -84,12 +84,12 @@ module _ (h : History) (d : Call) (a : Said) (l : ℕ) (key : Key) (now : ℕ) (
           record {
             o = O .0;
             settings = settingsOf r;
-            opened = O .1;
+            openedAt = O .1;
             opening = opening-after h d a e y (O .2);
             reading = t;
             fault = x;
             message =
-                subst (λ (z : Received). Heard (after h d a) l (O .0) (settingsOf r) (size h) t z) is
+                subst (λ (z : Received). ReceivedSince (after h d a) l (O .0) (settingsOf r) (size h) t z) is
                 (heard-new h d a e y (took-below h _ _ (O .2 .took)));
             own = same;
             latest = λ q u g b H k. none-beyond h d a q _ b (H .message .1);
@@ -111,7 +111,7 @@ module _ (h : History) (d : Call) (a : Said) (l : ℕ) (key : Key) (now : ℕ) (
         both-true (ap not (ap (λ (g : Fault). g .removed) (sym j) ∙ A .present)) (lt-ltb now _ b))
         (λ H. absurd
         (A .latest (size h) t x (took-below h p _ (H .message .1))
-        (subst (λ (z : Received). Heard (after h d a) l (A .o) (A .settings) (size h) t z) (known O ∙ is)
+        (subst (λ (z : Received). ReceivedSince (after h d a) l (A .o) (A .settings) (size h) t z) (known O ∙ is)
         (heard-new h d a e y (took-below h _ _ (O .took)))) same))
         (heard-cases h d a e y (A .message))
 
@@ -123,7 +123,7 @@ module _ (h : History) (d : Call) (a : Said) (l : ℕ) (key : Key) (now : ℕ) (
         record {
           o = A .o;
           settings = A .settings;
-          opened = A .opened;
+          openedAt = A .openedAt;
           opening = opening-after h d a e y (A .opening);
           reading = A .reading;
           fault = A .fault;
@@ -144,7 +144,7 @@ module _ (h : History) (d : Call) (a : Said) (l : ℕ) (key : Key) (now : ℕ) (
         (λ H. record {
           o = A .o;
           settings = A .settings;
-          opened = A .opened;
+          openedAt = A .openedAt;
           opening = O;
           reading = A .reading;
           fault = A .fault;

@@ -20,7 +20,7 @@ use Rattle.rules.proofs.Bools.{no-way, both-true, or-cases, or-left, or-right}
 use Rattle.meaning.specs.Stories.{Story, got, settingsOf, isCrossed}
 use Rattle.meaning.specs.Standing.{crossing}
 use Rattle.meaning.specs.Histories.{History, start, after, story}
-use Rattle.meaning.specs.Accounts.{size, Heard, AccountsForCrossing}
+use Rattle.meaning.specs.Accounts.{size, ReceivedSince, AccountsForCrossing}
 use Rattle.meaning.proofs.Positions.{Same, messaging, flipped, carried, took-below, opening-kept, heard-kept, heard-on, opening-settings, none-heard, opening-after, opening-before, heard-new, heard-cases, Turn, byOpen, byMessage, byOther, turn, none-open, opening-told}
 
 -- a crossing that stands has a call that accounts for it, and each such call shows that it stands
@@ -40,7 +40,7 @@ account-kept S A =
     record {
       o = A .o;
       settings = A .settings;
-      opened = A .opened;
+      openedAt = A .openedAt;
       opening = opening-kept S (λ u. refl) (A .opening);
       reading = A .reading;
       message = heard-kept S (λ m u. refl) (A .message);
@@ -56,7 +56,7 @@ module _ (h : History) (d : Call) (a : Said) (l now : ℕ) (r : Story) (m : List
         record {
           o = A .o;
           settings = A .settings;
-          opened = A .opened;
+          openedAt = A .openedAt;
           opening = opening-after h d a e y (A .opening);
           reading = A .reading;
           message = heard-on d a (A .message);
@@ -74,11 +74,11 @@ module _ (h : History) (d : Call) (a : Said) (l now : ℕ) (r : Story) (m : List
         record {
           o = O .0;
           settings = settingsOf r;
-          opened = O .1;
+          openedAt = O .1;
           opening = opening-after h d a e y (O .2);
           reading = t;
           message =
-              subst (λ (x : Received). Heard (after h d a) l (O .0) (settingsOf r) (size h) t x) (is-crossed _ (c .0))
+              subst (λ (x : Received). ReceivedSince (after h d a) l (O .0) (settingsOf r) (size h) t x) (is-crossed _ (c .0))
               (heard-new h d a e y (took-below h _ _ (O .2 .took)));
           fresh = ltb-true now (t + 3500000) (c .1);
         },
@@ -99,7 +99,7 @@ module _ (h : History) (d : Call) (a : Said) (l now : ℕ) (r : Story) (m : List
       (both-true (ap (λ (k : Settings). isCrossed (receivedAs k (messageOf m))) (sym g) ∙ ap isCrossed (z .2)) (lt-ltb now (t + 3500000) (omega arith))))
       (λ H. or-right (isCrossed (receivedAs (settingsOf r) (messageOf m)) && within t crossingTime now)
       (earlier p
-      (record { o = A .o; settings = A .settings; opened = A .opened; opening = O; reading = A .reading; message = H; fresh = b })))
+      (record { o = A .o; settings = A .settings; openedAt = A .openedAt; opening = O; reading = A .reading; message = H; fresh = b })))
       (heard-cases h d a e y (A .message))
 
 -- by the last call

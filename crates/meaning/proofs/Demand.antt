@@ -23,7 +23,7 @@ use Rattle.meaning.specs.Stories.{Story, settingsOf}
 use Rattle.meaning.specs.Standing.{report}
 use Rattle.meaning.specs.Histories.{History, start, after, reading, told, labelsAfter, clockOf, story, labels}
 use Rattle.meaning.specs.Answers.{isOpen, actSaid, saysOf, says}
-use Rattle.meaning.specs.Worlds.{World, step, play, begin, pastOf, tableOf, Right, Never}
+use Rattle.meaning.specs.Worlds.{World, step, play, begin, pastOf, tableAfter, Right, Never}
 use Rattle.meaning.specs.Lives.{Made, lives, askedIn}
 use Rattle.meaning.specs.Demand.{Demand3}
 use Rattle.meaning.proofs.Fits.{Fits}
@@ -140,7 +140,7 @@ no-shared h t S l m s u p q e =
     sym (x .1) ∙ ap (λ (r : Session). r .settings .label) one ∙ y .1
 
 pub demand3 : (row : List Session) → length row ≡ 64 → (cs : List Call) → Demand3 row cs
-unfolding pastOf tableOf
+unfolding pastOf tableAfter
 demand3 row e cs =
     record {
       answers = G .right;

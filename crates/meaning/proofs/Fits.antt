@@ -181,8 +181,8 @@ fits-later {now} later {r} {s} h f =
       sound = kept-sound r now later h (f .sound);
     }
 
-pub fits-opened : (g : Settings) (t : ℕ) → settingsFit g ≡ true → Fits t (Steps.opened g t) (opened g t)
-unfolding Steps.opened settingsOf timedFrom multiplierOf remoteDiagnostic remoteOf owed state crossing crossingAt
+pub fits-opened : (g : Settings) (t : ℕ) → settingsFit g ≡ true → Fits t (Steps.newSession g t) (opened g t)
+unfolding Steps.newSession settingsOf timedFrom multiplierOf remoteDiagnostic remoteOf owed state crossing crossingAt
 fits-opened g t e =
     record {
       settings = refl;
@@ -230,8 +230,8 @@ module _ {now : ℕ} (u : ℕ) {r : Session} {s : Story} (h : now ≤ u) (f : Fi
         sound = unlocked-sound r now u h (f .sound);
       }
 
-pub fits-wrote : {now : ℕ} {r : Session} {s : Story} → Fits now r s → Fits now (Steps.ccWritten r) (wroteCc s)
-unfolding Steps.ccWritten settingsOf timedFrom multiplierOf remoteDiagnostic remoteOf owed state crossing crossingAt
+pub fits-wrote : {now : ℕ} {r : Session} {s : Story} → Fits now r s → Fits now (Steps.replySettled r) (wroteCc s)
+unfolding Steps.replySettled settingsOf timedFrom multiplierOf remoteDiagnostic remoteOf owed state crossing crossingAt
 fits-wrote {now} {r} {s} f =
     record {
       settings = f .settings;

@@ -18,7 +18,7 @@ use Rattle.rules.specs.Calls.{Unlock, Receive, Call, Open, On, Said, isAccepted
 use Rattle.rules.proofs.Bools.{split}
 use Rattle.meaning.specs.Histories.{History, start, after, reading}
 use Rattle.meaning.proofs.Positions.{took-below as took-in, took-same as took-one, took-on, took-new, took-before}
-use Rattle.meaning.specs.Accounts.{size, Took, Opening, Heard, LockedBefore, RealUnlock, Restart, byOpening, byUnlock, byCc, byCv, Multiplier, heard, unheard}
+use Rattle.meaning.specs.Accounts.{size, Took, Opening, ReceivedSince, LockedBefore, RealUnlock, Restart, byOpening, byUnlock, byCc, byCv, Multiplier, heard, unheard}
 
 -- two positions are one, if neither is the earlier
 pub neither-before : (p q : ℕ) → (p < q → ⊥) → (q < p → ⊥) → p ≡ q
@@ -85,12 +85,12 @@ module _ (h : History) (c : Call) (a : Said) where
 
     module _ (g : Settings) where
       -- nor which earlier messages were heard
-      pub heard-on : (p t : ℕ) (x : Received) → Heard h l o g p t x → Heard (after h c a) l o g p t x
+      pub heard-on : (p t : ℕ) (x : Received) → ReceivedSince h l o g p t x → ReceivedSince (after h c a) l o g p t x
       heard-on p t x m =
           let n = m .message in record { message = (n .0, carry p _ (n .1), n .2); since = m .since }
 
       -- and the other way
-      pub heard-back : (p t : ℕ) (x : Received) → p < size h → Heard (after h c a) l o g p t x → Heard h l o g p t x
+      pub heard-back : (p t : ℕ) (x : Received) → p < size h → ReceivedSince (after h c a) l o g p t x → ReceivedSince h l o g p t x
       heard-back p t x e m =
           let n = m .message in record { message = (n .0, earlier p _ e (n .1), n .2); since = m .since }
 
@@ -127,7 +127,7 @@ restart-one h l o g p t u r s =
     sym (c .2) ∙ ap (λ (x : Call). reading x 0) (took-one h p (c .0) (d .0) (c .1) (d .1)) ∙ d .2
 
 -- a message that was heard stands inside the history
-pub heard-in : (h : History) (l o : ℕ) (g : Settings) (p t : ℕ) (x : Received) → Heard h l o g p t x → p < size h
+pub heard-in : (h : History) (l o : ℕ) (g : Settings) (p t : ℕ) (x : Received) → ReceivedSince h l o g p t x → p < size h
 heard-in h l o g p t x m = let n = m .message in took-in h p (On l (Receive (n .0) t)) (n .1)
 
 -- and so does a real unlock
@@ -135,7 +135,7 @@ pub real-in : (h : History) (l o p t : ℕ) → RealUnlock h l o p t → p < siz
 real-in h l o p t r = took-in h p (On l (Unlock t)) (r .took)
 
 -- a message that was heard at one position is one
-pub heard-one : (h : History) (l o : ℕ) (g : Settings) (p t u : ℕ) (x y : Received) → Heard h l o g p t x → Heard h l o g p u y → x ≡ y
+pub heard-one : (h : History) (l o : ℕ) (g : Settings) (p t u : ℕ) (x y : Received) → ReceivedSince h l o g p t x → ReceivedSince h l o g p u y → x ≡ y
 heard-one h l o g p t u x y m n =
     let a = m .message in
     let b = n .message in
@@ -155,7 +155,7 @@ opening-one h l o g t p k u v w =
 pub multiplier-one : (h : History) (l o : ℕ) (g : Settings) {j k : ℕ} → Multiplier h l o g j → Multiplier h l o g k → j ≡ k
 multiplier-one h l o g (heard p t a m last1 real1) (heard q u b n last2 real2) =
     let e : p ≡ q = neither-before p q (λ i. last1 q u b i n) (λ i. last2 p t a i m) in
-    let f : HeardCc a ≡ HeardCc b = heard-one h l o g q t u (HeardCc a) (HeardCc b) (subst (λ (r : ℕ). Heard h l o g r t (HeardCc a)) e m) n in
+    let f : HeardCc a ≡ HeardCc b = heard-one h l o g q t u (HeardCc a) (HeardCc b) (subst (λ (r : ℕ). ReceivedSince h l o g r t (HeardCc a)) e m) n in
     let k : a ≡ b = cc f in
     ap (λ (x : Packet). x .multiplier) k
 multiplier-one h l o g (heard p t a m last1 real1) (unheard f) = let r = f p t a m in absurd (real1 (r .0) (r .1) (r .2) (r .3))

@@ -21,7 +21,7 @@ use Rattle.rules.proofs.Bools.{split, no-way, both-true, refuted, true-false}
 use Rattle.meaning.specs.Stories.{Story, opened, lock, unlock, got, wroteCc, settingsOf, isHeard}
 use Rattle.meaning.specs.Standing.{locked, timedFrom, multiplierBy, multiplierOf, loss}
 use Rattle.meaning.specs.Histories.{History, start, after, more, actTold, told, story}
-use Rattle.meaning.specs.Accounts.{size, Opening, Heard, LockedBefore, RealUnlock, Restart, byOpening, byUnlock, byCc, byCv, Multiplier, heard, unheard, AccountsForLoss}
+use Rattle.meaning.specs.Accounts.{size, Opening, ReceivedSince, LockedBefore, RealUnlock, Restart, byOpening, byUnlock, byCc, byCv, Multiplier, heard, unheard, AccountsForLoss}
 use Rattle.meaning.proofs.Positions.{took-below as took-in}
 use Rattle.meaning.proofs.LossPositions.{neither-before, by-last, carry, put, earlier, last-is, locked-on, locked-back, real-on, real-back, heard-on, heard-back, restart-on, restart-back, restart-in, restart-one, heard-in, real-in, opening-one, multiplier-one}
 
@@ -192,7 +192,7 @@ module _ (h : History) (l : ℕ) (c : Call) (a : Said) (o : ℕ) (g : Settings) 
 
   -- the call is no message that was x
   not-heard : (x : Received) → ((m : List ℕ) (u : ℕ) → On l (Receive m u) ≡ c → isAccepted a ≡ true → receivedAs g (messageOf m) ≡ x → ⊥)
-      → (p t : ℕ) → p ≡ size h → Heard (after h c a) l o g p t x → ⊥
+      → (p t : ℕ) → p ≡ size h → ReceivedSince (after h c a) l o g p t x → ⊥
   not-heard x f p t e r =
       let n = r .message in
       let s = last-is h c a p (On l (Receive (n .0) t)) e (n .1) in
@@ -200,8 +200,8 @@ module _ (h : History) (l : ℕ) (c : Call) (a : Said) (o : ℕ) (g : Settings) 
 
   -- a call that is neither, and comes after the opening, restarts nothing
   not-restart : o < size h → ((p t : ℕ) → p ≡ size h → RealUnlock (after h c a) l o p t → ⊥)
-      → ((x : Packet) (p t : ℕ) → p ≡ size h → Heard (after h c a) l o g p t (HeardCc x) → ⊥)
-      → ((p t : ℕ) → p ≡ size h → Heard (after h c a) l o g p t HeardCv → ⊥) → (p t : ℕ) → p ≡ size h → Restart (after h c a) l o g p t → ⊥
+      → ((x : Packet) (p t : ℕ) → p ≡ size h → ReceivedSince (after h c a) l o g p t (HeardCc x) → ⊥)
+      → ((p t : ℕ) → p ≡ size h → ReceivedSince (after h c a) l o g p t HeardCv → ⊥) → (p t : ℕ) → p ≡ size h → Restart (after h c a) l o g p t → ⊥
   not-restart i real cc′ cv p t e (byOpening f w) = omega arith
   not-restart i real cc′ cv p t e (byUnlock r) = real p t e r
   not-restart i real cc′ cv p t e (byCc x m) = cc′ x p t e m
@@ -216,7 +216,7 @@ module _ (h : History) (l : ℕ) (c : Call) (a : Said) (o : ℕ) (g : Settings) 
 
   -- the multiplier stays, if the call is no heard CC and no real unlock
   times-on : {k : ℕ} → ((p t : ℕ) → p ≡ size h → RealUnlock (after h c a) l o p t → ⊥)
-      → ((x : Packet) (p t : ℕ) → p ≡ size h → Heard (after h c a) l o g p t (HeardCc x) → ⊥) → Multiplier h l o g k → Multiplier (after h c a) l o g k
+      → ((x : Packet) (p t : ℕ) → p ≡ size h → ReceivedSince (after h c a) l o g p t (HeardCc x) → ⊥) → Multiplier h l o g k → Multiplier (after h c a) l o g k
   unfolding size
   times-on real cc′ (heard p t x m last unreal) =
       heard p t x (heard-on h c a l o g p t _ m)
@@ -232,7 +232,7 @@ module _ (h : History) (l : ℕ) (c : Call) (a : Said) (o : ℕ) (g : Settings) 
       (λ j. absurd (cc′ x p t j m)))
 
   -- the call as a heard CC: its multiplier
-  times-heard : (t : ℕ) (x : Packet) → Heard (after h c a) l o g (size h) t (HeardCc x) → Multiplier (after h c a) l o g (x .multiplier)
+  times-heard : (t : ℕ) (x : Packet) → ReceivedSince (after h c a) l o g (size h) t (HeardCc x) → Multiplier (after h c a) l o g (x .multiplier)
   unfolding size
   times-heard t x m =
       heard (size h) t x m
@@ -283,7 +283,7 @@ module _ (h : History) (l : ℕ) (g : Settings) (b : Bool) (u k : ℕ) (I : Held
       → ((m : List ℕ) (v : ℕ) → On l (Receive m v) ≡ c → isAccepted a ≡ true → isHeard (receivedAs g (messageOf m)) ≡ true → ⊥) → Held (after h c a) l g d u k
   same-timing c d w there seen unlocks hears =
       let real = not-real h l c a (I .o) g unlocks in
-      let cc′ : (x : Packet) (p t : ℕ) → p ≡ size h → Heard (after h c a) l (I .o) g p t (HeardCc x) → ⊥ =
+      let cc′ : (x : Packet) (p t : ℕ) → p ≡ size h → ReceivedSince (after h c a) l (I .o) g p t (HeardCc x) → ⊥ =
       λ x. not-heard h l c a (I .o) g (HeardCc x) (λ m v e y f. hears m v e y (ap isHeard f)) in
       let cv = not-heard h l c a (I .o) g HeardCv (λ m v e y f. hears m v e y (ap isHeard f)) in
       record {
@@ -399,7 +399,7 @@ module _ (h : History) (l : ℕ) (g : Settings) (b : Bool) (u k : ℕ) (I : Held
     got-same n v e = let f : n ≡ m = cc e in ap (λ (z : List ℕ). receivedAs g (messageOf z)) f
 
     -- it stands at the last position
-    got-heard : (x : Received) → receivedAs g (messageOf m) ≡ x → Heard (after h (On l (Receive m t)) a) l (I .o) g (size h) t x
+    got-heard : (x : Received) → receivedAs g (messageOf m) ≡ x → ReceivedSince (after h (On l (Receive m t)) a) l (I .o) g (size h) t x
     got-heard x e = record { message = (m, put h (On l (Receive m t)) a y, e); since = since-opening }
 
     -- it is no unlock
@@ -558,7 +558,7 @@ loss-accounted h l s e now = (there, back)
           record {
             o = I .o;
             settings = settingsOf s;
-            opened = I .t;
+            openedAt = I .t;
             opening = I .opening;
             reading = timedFrom s;
             restart = I .restart;
@@ -572,12 +572,12 @@ loss-accounted h l s e now = (there, back)
 
     back : (p : ℕ) → AccountsForLoss h l now p → not (locked s) && past (timedFrom s) (settingsOf s .period * multiplierOf s) now ≡ true
     back p A =
-        let f : A .reading ≡ timedFrom s = restart-reading h l s e (A .o) (A .settings) (A .opened) (A .opening) p (A .reading) (A .restart) (A .latest) in
+        let f : A .reading ≡ timedFrom s = restart-reading h l s e (A .o) (A .settings) (A .openedAt) (A .opening) p (A .reading) (A .restart) (A .latest) in
         let k : A .multiplier ≡ multiplierOf s =
-        multiplier-accounted h l s e (A .o) (A .settings) (A .opened) (A .opening) (A .multiplier) .0 (A .times) in
-        let g : settingsOf s ≡ A .settings = the-opening h l s e (A .o) (A .settings) (A .opened) (A .opening) .1 in
+        multiplier-accounted h l s e (A .o) (A .settings) (A .openedAt) (A .opening) (A .multiplier) .0 (A .times) in
+        let g : settingsOf s ≡ A .settings = the-opening h l s e (A .o) (A .settings) (A .openedAt) (A .opening) .1 in
         let n : locked s ≡ false =
-        refuted (locked s) (λ z. A .unlocked (locked-accounted h l s e (A .o) (A .settings) (A .opened) (A .opening) .0 z)) in
+        refuted (locked s) (λ z. A .unlocked (locked-accounted h l s e (A .o) (A .settings) (A .openedAt) (A .opening) .0 z)) in
         let q : A .reading + A .settings .period * A .multiplier ≡ timedFrom s + settingsOf s .period * multiplierOf s =
         λ i. f i + sym g i .period * k i in
         both-true (ap not n)

@@ -27,7 +27,7 @@ use Rattle.rules.proofs.Lists.{any-at, any-who, any-same, swap-same, once-cons,
 use Rattle.rules.proofs.SameKeys.{keys-alike, same-sym, same-refl, same-trans, key-kind}
 use Rattle.conditions.specs.declared.Condition.{Condition}
 use Rattle.conditions.specs.declared.Conditions.{Conditions}
-use Rattle.conditions.specs.Standing.{filled, fresh, stands as placeStands, countAt, followedAt, anyFollowed}
+use Rattle.conditions.specs.Standing.{filled, fresh, placeStands, countAt, followedAt, anyFollowed}
 use Rattle.conditions.specs.Taking.{empty, noConditions, without, forgotten, freePlace, placed, conditionOf, faultAnswer, takenIn}
 use Rattle.conditions.proofs.Fading.{stands-before}
 use Rattle.meaning.specs.Stories.{Story, opened, lock, unlock, got, wroteCc, settingsOf, wasTo}
@@ -61,7 +61,7 @@ pub record Kept (now : ℕ) (cs : Conditions) (s : Story) : Type 0 where
   pub holding : (t : ℕ) → now ≤ t → (k : Key) → any (holds t k) (places cs) ≡ stands t s k
   pub apart : once sameKey (keysIn filled (places cs)) ≡ true
   pub following : (c : Condition) → List·Memᴰ c (places cs) → filled c ≡ true
-      → follows (settingsOf s) (c .key .kind) (eqb (c .link) 1) ≡ followedLast s (c .key)
+      → follows (settingsOf s) (c .key .kind) (eqb (c .linkdown) 1) ≡ followedLast s (c .key)
 
 -- laws of tests
 or-swap : (a b c : Bool) → a || (b || c) ≡ b || (a || c)
@@ -158,7 +158,7 @@ module _ (a b : Key) (same : sameKey a b ≡ true) where
   followed-by-alike g CrossedMessage h = h
   followed-by-alike g (HeardCc p) h = h
   followed-by-alike g HeardCv h = h
-  followed-by-alike g (FaultMessage f) h = λ i. cond (swap-same sameKey keys-alike a b (keyOf f) same i) (follows g (f .kind) (f .link)) (h i)
+  followed-by-alike g (FaultMessage f) h = λ i. cond (swap-same sameKey keys-alike a b (keyOf f) same i) (follows g (f .kind) (f .linkdown)) (h i)
 
   -- and are followed alike
   pub followed-alike : (s : Story) → followedLast s a ≡ followedLast s b
@@ -472,7 +472,7 @@ module _ {now : ℕ} {cs : Conditions} {s : Story} where
       record {
         holding = λ t h k. K .holding t h k ∙ sym (st t k);
         apart = K .apart;
-        following = λ c m e. ap (λ (x : Settings). follows x (c .key .kind) (eqb (c .link) 1)) g ∙ K .following c m e ∙ sym (fo (c .key));
+        following = λ c m e. ap (λ (x : Settings). follows x (c .key .kind) (eqb (c .linkdown) 1)) g ∙ K .following c m e ∙ sym (fo (c .key));
       }
 
   pub kept-lock : (t : ℕ) → Kept now cs s → Kept now cs (lock s t)
@@ -518,7 +518,7 @@ module _ {now : ℕ} {cs : Conditions} {s : Story} (m : Message) (t : ℕ) where
 -- places that are those of a list
 module _ {now : ℕ} {cs : Conditions} {s : Story} (xs : List Condition) (e : places cs ≡ xs) where
   kept-list : ((t : ℕ) → now ≤ t → (k : Key) → any (holds t k) xs ≡ stands t s k) → once sameKey (keysIn filled xs) ≡ true
-      → ((c : Condition) → List·Memᴰ c xs → filled c ≡ true → follows (settingsOf s) (c .key .kind) (eqb (c .link) 1) ≡ followedLast s (c .key))
+      → ((c : Condition) → List·Memᴰ c xs → filled c ≡ true → follows (settingsOf s) (c .key .kind) (eqb (c .linkdown) 1) ≡ followedLast s (c .key))
       → Kept now cs s
   kept-list ho ap fo =
       record {
@@ -540,8 +540,8 @@ module _ (f : Fault) (t : ℕ) (kind : f .kind ≡ 0 → ⊥) where
 
 -- it is followed as the message is
 new-follows : (g : Settings) (f : Fault) (t : ℕ)
-    → follows g (conditionOf f t .key .kind) (eqb (conditionOf f t .link) 1) ≡ follows g (f .kind) (f .link)
-new-follows g f t = λ i. follows g (key-kind (f .kind) (f .interface) i) (bit-back (f .link) (bitOf (f .link)) refl i)
+    → follows g (conditionOf f t .key .kind) (eqb (conditionOf f t .linkdown) 1) ≡ follows g (f .kind) (f .linkdown)
+new-follows g f t = λ i. follows g (key-kind (f .kind) (f .interface) i) (bit-back (f .linkdown) (bitOf (f .linkdown)) refl i)
 
 -- the test of a key that is forgotten
 module _ (u : ℕ) (k m : Key) where
@@ -562,15 +562,15 @@ module _ (u : ℕ) (k m : Key) where
 module _ {now : ℕ} {cs : Conditions} {s : Story} (m : Message) (f : Fault) (t : ℕ) (later : now ≤ t) (kind : f .kind ≡ 0 → ⊥)
     (was : wasTo s m ≡ FaultMessage f) (K : Kept now cs s) where
   -- the key of the message is followed as the message says
-  own : (k : Key) → sameKey (keyOf f) k ≡ true → followedBy (settingsOf s) k (FaultMessage f) (followedLast s k) ≡ follows (settingsOf s) (f .kind) (f .link)
+  own : (k : Key) → sameKey (keyOf f) k ≡ true → followedBy (settingsOf s) k (FaultMessage f) (followedLast s k) ≡ follows (settingsOf s) (f .kind) (f .linkdown)
   own k q = rw q
 
   -- what is left is of other keys, of which the message says nothing
   kept-left : (c : Condition) → List·Memᴰ c (forget (keyOf f) (places cs)) → filled c ≡ true
-      → follows (settingsOf (got s m t)) (c .key .kind) (eqb (c .link) 1) ≡ followedLast (got s m t) (c .key)
+      → follows (settingsOf (got s m t)) (c .key .kind) (eqb (c .linkdown) 1) ≡ followedLast (got s m t) (c .key)
   kept-left c n e =
       ⊎-elim (λ z. no-way e (ap filled z))
-      (λ w. ap (λ (x : Settings). follows x (c .key .kind) (eqb (c .link) 1)) (got-settings s m t)
+      (λ w. ap (λ (x : Settings). follows x (c .key .kind) (eqb (c .linkdown) 1)) (got-settings s m t)
       ∙ K .following c (w .0) e
       ∙ sym (got-followed s m t was (c .key) ∙ other (c .key) (same-sym (keyOf f) (c .key) ∙ w .1)))
       (mem-forget (keyOf f) c (places cs) n)
@@ -632,10 +632,10 @@ module _ {now : ℕ} {cs : Conditions} {s : Story} (m : Message) (f : Fault) (t 
           ∙ (λ i. (new-stands f t kind u i && e i) || (holds-kept u (keyOf f) k e (places cs) ∙ K .holding u (omega arith) k) i)
           ∙ neither (within t (lifetime (f .refresh)) u) (stands u s k)))
 
-      following : (c : Condition) → c ≡ n → follows (settingsOf (got s m t)) (c .key .kind) (eqb (c .link) 1) ≡ followedLast (got s m t) (c .key)
+      following : (c : Condition) → c ≡ n → follows (settingsOf (got s m t)) (c .key .kind) (eqb (c .linkdown) 1) ≡ followedLast (got s m t) (c .key)
       following c q =
           rw q
-          (ap (λ (x : Settings). follows x (n .key .kind) (eqb (n .link) 1)) (got-settings s m t)
+          (ap (λ (x : Settings). follows x (n .key .kind) (eqb (n .linkdown) 1)) (got-settings s m t)
           ∙ new-follows (settingsOf s) f t
           ∙ sym (got-followed s m t was (keyOf f) ∙ own (keyOf f) (same-refl (keyOf f))))
 
@@ -681,7 +681,7 @@ module _ {now : ℕ} {cs : Conditions} {s : Story} (t : ℕ) (h : now ≤ t) (K 
   kept-followed = any-followed (settingsOf s) cs t ∙ same-test (any place (places cs)) (any told (keysOf s)) to from
     where
       place : Condition → Bool
-      place c = placeStands c t && follows (settingsOf s) (c .key .kind) (eqb (c .link) 1)
+      place c = placeStands c t && follows (settingsOf s) (c .key .kind) (eqb (c .linkdown) 1)
 
       told : Key → Bool
       told k = stands t s k && followedLast s k
@@ -693,7 +693,7 @@ module _ {now : ℕ} {cs : Conditions} {s : Story} (t : ℕ) (h : now ≤ t) (K 
       to e =
           let w = any-who place (places cs) e in
           let c = w .0 in
-          let b = and-both (placeStands c t) (follows (settingsOf s) (c .key .kind) (eqb (c .link) 1)) (w .2) in
+          let b = and-both (placeStands c t) (follows (settingsOf s) (c .key .kind) (eqb (c .linkdown) 1)) (w .2) in
           let up : stands t s (c .key) ≡ true = sym (K .holding t h (c .key)) ∙ any-at (holds t (c .key)) (w .1) (both-true (b .0) (same-refl (c .key))) in
           let on : followedLast s (c .key) ≡ true = sym (K .following c (w .1) (stands-filled c t (b .0))) ∙ b .1 in
           let k = any-who (sameKey (c .key)) (keysOf s) (stands-has t s (c .key) up) in

@@ -20,7 +20,7 @@ use Rattle.rules.proofs.Bools.{split, both-true, true-false}
 use Rattle.meaning.specs.Stories.{Story, opened, lock, unlock, got, wroteCc, settingsOf}
 use Rattle.meaning.specs.Standing.{crossing, stands}
 use Rattle.meaning.specs.Histories.{History, start, after, more, actTold, told, story}
-use Rattle.meaning.specs.Accounts.{size, Took, Opening, Heard}
+use Rattle.meaning.specs.Accounts.{size, Took, Opening, ReceivedSince}
 
 -- a conjunction with a false test
 and-false : (b : Bool) {c : Bool} → c ≡ false → b && c ≡ false
@@ -128,7 +128,7 @@ module _ {w : Act → Bool} {l : ℕ} {h k : History} (S : Same w l h k) where
       }
 
   -- a message is carried where receives are named
-  pub heard-kept : ((m : List ℕ) (u : ℕ) → w (Receive m u) ≡ true) → {o : ℕ} {g : Settings} {p t : ℕ} {x : Received} → Heard h l o g p t x → Heard k l o g p t x
+  pub heard-kept : ((m : List ℕ) (u : ℕ) → w (Receive m u) ≡ true) → {o : ℕ} {g : Settings} {p t : ℕ} {x : Received} → ReceivedSince h l o g p t x → ReceivedSince k l o g p t x
   heard-kept receives {o} {g} {p} {t} H =
       record {
         message =
@@ -169,7 +169,7 @@ module _ (h : History) (d : Call) (a : Said) {l t : ℕ} {g : Settings} (e : d �
       }
 
   -- no message is later
-  pub none-heard : {o : ℕ} {k : Settings} {v p u : ℕ} {x : Received} → Opening (after h d a) l o k v → Heard (after h d a) l o k p u x → ⊥
+  pub none-heard : {o : ℕ} {k : Settings} {v p u : ℕ} {x : Received} → Opening (after h d a) l o k v → ReceivedSince (after h d a) l o k p u x → ⊥
   none-heard {o} {k} {v} {p} {u} O H = let z : o ≡ size h = opening-place O opening-new in let b : o < p = H .since in none-beyond h d a p (On l (Receive (H .message .0) u)) (omega arith) (H .message .1)
 
 -- an accepted receive on the label
@@ -185,12 +185,12 @@ module _ (h : History) (d : Call) (a : Said) {l t : ℕ} {m : List ℕ} (e : d �
   opening-before O = opening-kept (flipped same-bounds) (λ u. refl) O
 
   -- is a new message
-  pub heard-new : {o : ℕ} {g : Settings} → o < size h → Heard (after h d a) l o g (size h) t (receivedAs g (messageOf m))
+  pub heard-new : {o : ℕ} {g : Settings} → o < size h → ReceivedSince (after h d a) l o g (size h) t (receivedAs g (messageOf m))
   heard-new b = record { message = (m, took-new h d a e y, refl); since = b }
 
   -- and the others are the earlier ones
-  pub heard-cases : {o : ℕ} {g : Settings} {p u : ℕ} {x : Received} → Heard (after h d a) l o g p u x
-      → ((p ≡ size h) × (u ≡ t) × (receivedAs g (messageOf m) ≡ x)) ⊎ Heard h l o g p u x
+  pub heard-cases : {o : ℕ} {g : Settings} {p u : ℕ} {x : Received} → ReceivedSince (after h d a) l o g p u x
+      → ((p ≡ size h) × (u ≡ t) × (receivedAs g (messageOf m) ≡ x)) ⊎ ReceivedSince h l o g p u x
   heard-cases {o} {g} {p} {u} {x} H =
       ⊎-elim
       (λ z.
@@ -202,7 +202,7 @@ module _ (h : History) (d : Call) (a : Said) {l t : ℕ} {m : List ℕ} (e : d �
       (took-cases h d a p (On l (Receive (H .message .0) u)) (H .message .1))
 
 -- a message is carried over any call
-pub heard-on : {h : History} (d : Call) (a : Said) {l o : ℕ} {g : Settings} {p t : ℕ} {x : Received} → Heard h l o g p t x → Heard (after h d a) l o g p t x
+pub heard-on : {h : History} (d : Call) (a : Said) {l o : ℕ} {g : Settings} {p t : ℕ} {x : Received} → ReceivedSince h l o g p t x → ReceivedSince (after h d a) l o g p t x
 heard-on {h} d a {l} {o} {g} {p} {t} H = record { message = (H .message .0, took-on h d a p (On l (Receive (H .message .0) t)) (H .message .1), H .message .2); since = H .since }
 
 -- a story that differs in no message and not in the opening

@@ -237,14 +237,14 @@ pub data Unfit (g : Settings) : Type 0 where
   periodAbove : 10000000 < g .period → Unfit g
   ownKind : 1 < g .own .kind → Unfit g
   expectedKind : 1 < g .expected .kind → Unfit g
-  linkMark : 1 < g .link → Unfit g
-  lockMark : 1 < g .lock → Unfit g
+  linkMark : 1 < g .followlink → Unfit g
+  lockMark : 1 < g .followlock → Unfit g
 
 -- the ways in the order of the test
 abbrev UnfitWays : Settings → Type 0
 UnfitWays g =
     ((((g .label < 16) ⊎ (1048575 < g .label)) ⊎ (g .discriminator ≡ 0)) ⊎ ((g .period < 1000) ⊎ (10000000 < g .period)))
-    ⊎ ((((1 < g .own .kind) ⊎ (1 < g .expected .kind)) ⊎ (1 < g .link)) ⊎ (1 < g .lock))
+    ⊎ ((((1 < g .own .kind) ⊎ (1 < g .expected .kind)) ⊎ (1 < g .followlink)) ⊎ (1 < g .followlock))
 
 module _ (g : Settings) where
   settings-fail : (settingsFit g ≡ false) ↔ UnfitWays g
@@ -253,7 +253,7 @@ module _ (g : Settings) where
       either-fails
       (either-fails (either-fails (either-fails (above 16 (g .label)) (above (g .label) 1048575)) (equals (g .discriminator) 0))
       (either-fails (above 1000 (g .period)) (above (g .period) 10000000)))
-      (either-fails (either-fails (either-fails (no-mark (g .own .kind)) (no-mark (g .expected .kind))) (no-mark (g .link))) (no-mark (g .lock)))
+      (either-fails (either-fails (either-fails (no-mark (g .own .kind)) (no-mark (g .expected .kind))) (no-mark (g .followlink))) (no-mark (g .followlock)))
 
   -- 10 of the table
   pub reading-10 : (settingsFit g ≡ false) ↔ Unfit g
@@ -287,7 +287,7 @@ module _ (g : Settings) where
 pub data BrokenPlace (c : Condition) (clock : ℕ) : Type 0 where
   kindAbove : 2 < c .key .kind → BrokenPlace c clock
   presentMark : 1 < c .key .present → BrokenPlace c clock
-  linkFlag : 1 < c .link → BrokenPlace c clock
+  linkFlag : 1 < c .linkdown → BrokenPlace c clock
   noRefresh : c .refresh ≡ 0 → BrokenPlace c clock
   refreshAbove : 20 < c .refresh → BrokenPlace c clock
   datedAbove : clock < c .at → BrokenPlace c clock
@@ -295,7 +295,7 @@ pub data BrokenPlace (c : Condition) (clock : ℕ) : Type 0 where
 -- the ways in the order of the test
 abbrev PlaceWays : Condition → ℕ → Type 0
 PlaceWays c clock =
-    (((((2 < c .key .kind) ⊎ (1 < c .key .present)) ⊎ (1 < c .link)) ⊎ (c .refresh ≡ 0)) ⊎ (20 < c .refresh)) ⊎ (clock < c .at)
+    (((((2 < c .key .kind) ⊎ (1 < c .key .present)) ⊎ (1 < c .linkdown)) ⊎ (c .refresh ≡ 0)) ⊎ (20 < c .refresh)) ⊎ (clock < c .at)
 
 module _ (c : Condition) (clock : ℕ) where
   place-fails : (placeSound c clock ≡ false) ↔ ((c .key .kind ≡ 0 → ⊥) × PlaceWays c clock)
@@ -303,7 +303,7 @@ module _ (c : Condition) (clock : ℕ) where
   place-fails =
       both-fail (no-equals (c .key .kind) 0)
       (either-fails
-      (either-fails (either-fails (either-fails (either-fails (above (c .key .kind) 2) (no-mark (c .key .present))) (no-mark (c .link))) (nought (c .refresh)))
+      (either-fails (either-fails (either-fails (either-fails (above (c .key .kind) 2) (no-mark (c .key .present))) (no-mark (c .linkdown))) (nought (c .refresh)))
       (above (c .refresh) 20))
       (above (c .at) clock))
 

@@ -290,9 +290,9 @@ module _ {now : ℕ} {st : ℕ → Option Story} {ls : List ℕ} {t : Table} (S 
 
   sim-added : (g : Settings) (u : ℕ) → now ≤ u → settingsFit g ≡ true → any (rivals g) (openOf t) ≡ false → (occupiedOf 64 (t .occupied) ≡ 64 → ⊥)
       → Sim u (λ m. told m (Open g u) (st m)) (g .label ∷ ls) (added t g u)
-  unfolding added Steps.opened any
+  unfolding added Steps.newSession any
   sim-added g u h ok free room =
-      let n = Steps.opened g u in
+      let n = Steps.newSession g u in
       let i : Inserted n (openOf t) (openOf (added t g u)) = opens-added n 64 (t .occupied) (t .row) (S .rows) (free-exists 64 (t .occupied) room) in
       let unlike : any (sameLabel n) (openOf t) ≡ false =
       any-same (sameLabel n) (hasLabel (g .label)) (λ r. numbers-alike .back (g .label) (r .settings .label)) (openOf t) ∙ no-label g free in
@@ -427,9 +427,9 @@ module _ {now : ℕ} {st : ℕ → Option Story} {ls : List ℕ} {t : Table} (S 
       (fit-receive m u h (find l (openOf t)) (st l) (S .fit l) (b .1))
   act-done l ReportOn e = sim-same (λ m. both-same (eqb l m)) S
   act-done l (WriteCc b) e =
-      subst (λ (k : ℕ). Sim now (λ m. told m (On l (WriteCc b)) (st m)) ls (altered t l Steps.ccWritten k)) (sym (S .clock))
-      (sim-altered S l now (omega arith) Steps.ccWritten (λ r. unfold Steps.ccWritten in refl) (more wroteCc) (more-open wroteCc)
-      (fit-map now Steps.ccWritten wroteCc (λ r s f. fits-wrote f) (find l (openOf t)) (st l) (S .fit l)))
+      subst (λ (k : ℕ). Sim now (λ m. told m (On l (WriteCc b)) (st m)) ls (altered t l Steps.replySettled k)) (sym (S .clock))
+      (sim-altered S l now (omega arith) Steps.replySettled (λ r. unfold Steps.replySettled in refl) (more wroteCc) (more-open wroteCc)
+      (fit-map now Steps.replySettled wroteCc (λ r s f. fits-wrote f) (find l (openOf t)) (st l) (S .fit l)))
   act-done l (WriteCv b) e = sim-same (λ m. both-same (eqb l m)) S
 
   pub sim-done : (c : Call) → isAccepted (asked t c) ≡ true → Sim (reading c now) (λ m. told m c (st m)) (labelsAfter c ls) (done t c)

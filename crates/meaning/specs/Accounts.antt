@@ -35,7 +35,7 @@ pub record Opening (h : History) (l o : ℕ) (g : Settings) (t : ℕ) : Type 0 w
   pub unclosed : (p u : ℕ) → o < p → Took h p (On l (Close u)) → ⊥
 
 -- a message that was accepted on the label since the opening, and what it was
-pub record Heard (h : History) (l o : ℕ) (g : Settings) (p t : ℕ) (x : Received) : Type 0 where
+pub record ReceivedSince (h : History) (l o : ℕ) (g : Settings) (p t : ℕ) (x : Received) : Type 0 where
   pub message : (m : _) × Took h p (On l (Receive m t)) × (receivedAs g (messageOf m) ≡ x)
   pub since : o < p
 
@@ -57,33 +57,33 @@ pub record RealUnlock (h : History) (l o p t : ℕ) : Type 0 where
 pub data Restart (h : History) (l o : ℕ) (g : Settings) (p t : ℕ) : Type 0 where
   byOpening : p ≡ o → Took h o (Open g t) → Restart h l o g p t
   byUnlock : RealUnlock h l o p t → Restart h l o g p t
-  byCc : (packet : Packet) → Heard h l o g p t (HeardCc packet) → Restart h l o g p t
-  byCv : Heard h l o g p t HeardCv → Restart h l o g p t
+  byCc : (packet : Packet) → ReceivedSince h l o g p t (HeardCc packet) → Restart h l o g p t
+  byCv : ReceivedSince h l o g p t HeardCv → Restart h l o g p t
 
 -- the multiplier: that of the last heard CC since opening or real unlock, else 3
 pub data Multiplier (h : History) (l o : ℕ) (g : Settings) : ℕ → Type 0 where
-  heard : (p t : ℕ) (packet : Packet) → Heard h l o g p t (HeardCc packet)
-      → ((q u : ℕ) (other : Packet) → p < q → Heard h l o g q u (HeardCc other) → ⊥) → ((q u : ℕ) → p < q → RealUnlock h l o q u → ⊥)
+  heard : (p t : ℕ) (packet : Packet) → ReceivedSince h l o g p t (HeardCc packet)
+      → ((q u : ℕ) (other : Packet) → p < q → ReceivedSince h l o g q u (HeardCc other) → ⊥) → ((q u : ℕ) → p < q → RealUnlock h l o q u → ⊥)
       → Multiplier h l o g (packet .multiplier)
-  unheard : ((p t : ℕ) (packet : Packet) → Heard h l o g p t (HeardCc packet) → (q : ℕ) × (u : ℕ) × (p < q) × RealUnlock h l o q u)
+  unheard : ((p t : ℕ) (packet : Packet) → ReceivedSince h l o g p t (HeardCc packet) → (q : ℕ) × (u : ℕ) × (p < q) × RealUnlock h l o q u)
       → Multiplier h l o g 3
 
 -- for a crossing: each crossed message since the opening, less than 3,500,000 before now
 pub record AccountsForCrossing (h : History) (l now p : ℕ) : Type 0 where
   pub o : ℕ
   pub settings : Settings
-  pub opened : ℕ
-  pub opening : Opening h l o settings opened
+  pub openedAt : ℕ
+  pub opening : Opening h l o settings openedAt
   pub reading : ℕ
-  pub message : Heard h l o settings p reading CrossedMessage
+  pub message : ReceivedSince h l o settings p reading CrossedMessage
   pub fresh : now < reading + 3500000
 
 -- for a loss: the opening, real unlock or heard message that it is timed from; of equal readings the later call
 pub record AccountsForLoss (h : History) (l now p : ℕ) : Type 0 where
   pub o : ℕ
   pub settings : Settings
-  pub opened : ℕ
-  pub opening : Opening h l o settings opened
+  pub openedAt : ℕ
+  pub opening : Opening h l o settings openedAt
   pub reading : ℕ
   pub restart : Restart h l o settings p reading
   pub latest : (q u : ℕ) → p < q → Restart h l o settings q u → ⊥
@@ -96,13 +96,13 @@ pub record AccountsForLoss (h : History) (l now p : ℕ) : Type 0 where
 pub record AccountsForCondition (h : History) (l : ℕ) (key : Key) (now p : ℕ) : Type 0 where
   pub o : ℕ
   pub settings : Settings
-  pub opened : ℕ
-  pub opening : Opening h l o settings opened
+  pub openedAt : ℕ
+  pub opening : Opening h l o settings openedAt
   pub reading : ℕ
   pub fault : Fault
-  pub message : Heard h l o settings p reading (FaultMessage fault)
+  pub message : ReceivedSince h l o settings p reading (FaultMessage fault)
   pub own : sameKey (keyOf fault) key ≡ true
-  pub latest : (q u : ℕ) (other : Fault) → p < q → Heard h l o settings q u (FaultMessage other) → sameKey (keyOf other) key ≡ true → ⊥
+  pub latest : (q u : ℕ) (other : Fault) → p < q → ReceivedSince h l o settings q u (FaultMessage other) → sameKey (keyOf other) key ≡ true → ⊥
   pub present : fault .removed ≡ false
   pub fresh : now < reading + 3500000 * fault .refresh
 

@@ -22,7 +22,7 @@ use Rattle.meaning.specs.Histories.{clockOf, story, labels}
 use Rattle.meaning.specs.Answers.{isOpen}
 use Rattle.meaning.specs.Accounts.{AccountsForCrossing, AccountsForLoss, AccountsForCondition, AccountsForHeldBack}
 use Rattle.meaning.specs.Timer.{eagerState, shown}
-use Rattle.meaning.specs.Worlds.{pastOf, tableOf, Right, Never}
+use Rattle.meaning.specs.Worlds.{pastOf, tableAfter, Right, Never}
 use Rattle.meaning.specs.Lives.{Made, lives, askedIn}
 
 -- the report that the table gives on a label
@@ -35,20 +35,20 @@ pub record Demand3 (row : List Session) (cs : List Call) : Type 0 where
   pub never-26 : Never 26 (pastOf row cs)
   -- after the list, the report on every open label is what its story means at the clock
   pub reports : (l : ℕ) (s : Story) → story l (pastOf row cs) ≡ some s
-      → answer (tableOf row cs) (On l ReportOn) ≡ reporting (report (clockOf (pastOf row cs)) s)
+      → answer (tableAfter row cs) (On l ReportOn) ≡ reporting (report (clockOf (pastOf row cs)) s)
   -- of the table's own report on an open label after the list: it shows a crossing, a loss, a held-back alarm (loss 1 and alarm 0)
   -- exactly when an accepted call accounts for it
   pub crossing : (l : ℕ) → isOpen (story l (pastOf row cs)) ≡ true
-      → (reportOn (tableOf row cs) l .crossing ≡ 1) ↔ ((p : ℕ) × AccountsForCrossing (pastOf row cs) l (clockOf (pastOf row cs)) p)
+      → (reportOn (tableAfter row cs) l .crossing ≡ 1) ↔ ((p : ℕ) × AccountsForCrossing (pastOf row cs) l (clockOf (pastOf row cs)) p)
   pub loss : (l : ℕ) → isOpen (story l (pastOf row cs)) ≡ true
-      → (reportOn (tableOf row cs) l .loss ≡ 1) ↔ ((p : ℕ) × AccountsForLoss (pastOf row cs) l (clockOf (pastOf row cs)) p)
+      → (reportOn (tableAfter row cs) l .loss ≡ 1) ↔ ((p : ℕ) × AccountsForLoss (pastOf row cs) l (clockOf (pastOf row cs)) p)
   pub held-back : (l : ℕ) → isOpen (story l (pastOf row cs)) ≡ true
-      → ((reportOn (tableOf row cs) l .loss ≡ 1) × (reportOn (tableOf row cs) l .alarm ≡ 0))
+      → ((reportOn (tableAfter row cs) l .loss ≡ 1) × (reportOn (tableAfter row cs) l .alarm ≡ 0))
       ↔ ((p : ℕ) × AccountsForHeldBack (pastOf row cs) l (clockOf (pastOf row cs)) p)
   -- the number of conditions shown is that of the keys so accounted for
   pub conditions : (l : ℕ) → isOpen (story l (pastOf row cs)) ≡ true → (keys : List Key) → once sameKey keys ≡ true
       → ((key : Key) → (any (sameKey key) keys ≡ true) ↔ ((p : ℕ) × AccountsForCondition (pastOf row cs) l key (clockOf (pastOf row cs)) p))
-      → reportOn (tableOf row cs) l .conditions ≡ length keys
+      → reportOn (tableAfter row cs) l .conditions ≡ length keys
   -- every message that accounts for a held-back alarm is less than 70 seconds old
   pub fresh : (l p : ℕ) (held : AccountsForHeldBack (pastOf row cs) l (clockOf (pastOf row cs)) p)
       → clockOf (pastOf row cs) < held .condition .1 .reading + 70000000
@@ -62,7 +62,7 @@ pub record Demand3 (row : List Session) (cs : List Call) : Type 0 where
   pub unshared : (l m : ℕ) (s u : Story) → story l (pastOf row cs) ≡ some s → story m (pastOf row cs) ≡ some u
       → settingsOf s .discriminator ≡ settingsOf u .discriminator → l ≡ m
   -- nor do two occupied places of the row; the occupied places are exactly the open labels' records, and the set's ones are their number
-  pub row-open : (l : ℕ) → isFound (find l (openOf (tableOf row cs))) ≡ isOpen (story l (pastOf row cs))
-  pub row-labels : once sameLabel (openOf (tableOf row cs)) ≡ true
-  pub row-discriminators : once sameDiscriminator (openOf (tableOf row cs)) ≡ true
-  pub row-count : occupiedOf 64 (tableOf row cs .occupied) ≡ length (labels (pastOf row cs))
+  pub row-open : (l : ℕ) → isFound (find l (openOf (tableAfter row cs))) ≡ isOpen (story l (pastOf row cs))
+  pub row-labels : once sameLabel (openOf (tableAfter row cs)) ≡ true
+  pub row-discriminators : once sameDiscriminator (openOf (tableAfter row cs)) ≡ true
+  pub row-count : occupiedOf 64 (tableAfter row cs .occupied) ≡ length (labels (pastOf row cs))

@@ -36,7 +36,7 @@ abbrev mep : ℕ → MepId
 mep local = record { kind = 1; global = 7; node = 8; local = local }
 
 abbrev settings : Settings
-settings = record { label = 100; discriminator = 17; period = 1000000; own = mep 1; expected = mep 2; link = 0; lock = 0 }
+settings = record { label = 100; discriminator = 17; period = 1000000; own = mep 1; expected = mep 2; followlink = 0; followlock = 0 }
 
 abbrev opening : Call
 opening = Open settings 0
@@ -76,7 +76,7 @@ abbrev cv : ℕ → ℕ → ℕ → ℕ → Call
 cv state your local t = On 100 (Receive (cvOctets (packetIn state your) (mep local)) t)
 
 abbrev ais : ℕ → Call
-ais t = On 100 (Receive (faultOctets (record { kind = 1; link = false; removed = false; refresh = 1; interface = NoIfId; global = NoGlobalId })) t)
+ais t = On 100 (Receive (faultOctets (record { kind = 1; linkdown = false; removed = false; refresh = 1; interface = NoIfId; global = NoGlobalId })) t)
 
 abbrev reportNow : Call
 reportNow = On 100 ReportOn

@@ -142,7 +142,7 @@ abbrev pub followedBy : Settings → Key → Received → Bool → Bool
 followedBy g key CrossedMessage old = old
 followedBy g key (HeardCc p) old = old
 followedBy g key HeardCv old = old
-followedBy g key (FaultMessage f) old = cond (sameKey (keyOf f) key) (follows g (f .kind) (f .link)) old
+followedBy g key (FaultMessage f) old = cond (sameKey (keyOf f) key) (follows g (f .kind) (f .linkdown)) old
 
 -- the last accepted fault message of the key is one that the session follows
 unfoldable pub followedLast : Story → Key → Bool

@@ -28,8 +28,8 @@ begin row = record { table = emptied row; past = start }
 unfoldable pub pastOf : List Session → List Call → History
 pastOf row cs = play (begin row) cs .past
 
-unfoldable pub tableOf : List Session → List Call → Table
-tableOf row cs = play (begin row) cs .table
+unfoldable pub tableAfter : List Session → List Call → Table
+tableAfter row cs = play (begin row) cs .table
 
 -- each call said what the paper gives from what was called and said before it
 unfoldable pub Right : History → Type 0

@@ -16,8 +16,8 @@ pub record SettingsSay (s : Settings) : Type 0 where
   pub periodHigh : s .period ≤ 10000000
   pub own : s .own .kind < 2
   pub expected : s .expected .kind < 2
-  pub link : s .link < 2
-  pub lock : s .lock < 2
+  pub followlink : s .followlink < 2
+  pub followlock : s .followlock < 2
 
 pub settings-say : (s : Settings) → settingsFit s ≡ true → SettingsSay s
 unfolding settingsFit
@@ -38,6 +38,6 @@ settings-say s e =
       periodHigh = leb-true _ _ (p .1);
       own = ltb-true _ _ (g .0);
       expected = ltb-true _ _ (g .1);
-      link = ltb-true _ _ (f .1);
-      lock = ltb-true _ _ (d .1);
+      followlink = ltb-true _ _ (f .1);
+      followlock = ltb-true _ _ (d .1);
     }

@@ -29,7 +29,7 @@ sameKey a b =
 
 -- a session follows AIS with L set if it follows link-down, and LKR if it follows lock
 unfoldable pub follows : Settings → ℕ → Bool → Bool
-follows s kind link = cond (eqb kind 1) (link && eqb (s .link) 1) (eqb (s .lock) 1)
+follows s kind linkdown = cond (eqb kind 1) (linkdown && eqb (s .followlink) 1) (eqb (s .followlock) 1)
 
 -- LDI or LKR
 abbrev pub faultInput : ℕ → Input
@@ -37,7 +37,7 @@ faultInput kind = cond (eqb kind 1) LinkDown LockReport
 
 -- an accepted fault message moves the session where R is clear and the session follows it
 abbrev pub actsOn : Settings → Fault → Bool
-actsOn settings f = not (f .removed) && follows settings (f .kind) (f .link)
+actsOn settings f = not (f .removed) && follows settings (f .kind) (f .linkdown)
 
 abbrev pub faultState : Bool → State → ℕ → State
 faultState acts from kind = cond acts (moved from (faultInput kind)) from

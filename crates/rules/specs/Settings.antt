@@ -28,8 +28,8 @@ abbrev pub circuitFits : ℕ → ℕ → ℕ → Bool
 circuitFits label discriminator period = labelFits label && discriminatorFits discriminator && periodFits period
 
 abbrev pub choicesFit : ℕ → ℕ → ℕ → ℕ → Bool
-choicesFit own expected link lock = kindFits own && kindFits expected && markFits link && markFits lock
+choicesFit own expected followlink followlock = kindFits own && kindFits expected && markFits followlink && markFits followlock
 
 -- refusal 10 on open is for settings that do not fit
 unfoldable pub settingsFit : Settings → Bool
-settingsFit s = circuitFits (s .label) (s .discriminator) (s .period) && choicesFit (s .own .kind) (s .expected .kind) (s .link) (s .lock)
+settingsFit s = circuitFits (s .label) (s .discriminator) (s .period) && choicesFit (s .own .kind) (s .expected .kind) (s .followlink) (s .followlock)

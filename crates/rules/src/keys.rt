@@ -53,16 +53,16 @@ pub fn same_key(a: Key, b: Key) -> bool
 }
 
 // Whether a session follows a condition of this type and L flag.
-pub fn is_followed(s: Settings, kind: u8, link: bool) -> bool
-    ensures { λ r. ⌜ r ≡ follows s kind link ⌝ }
+pub fn is_followed(s: Settings, kind: u8, linkdown: bool) -> bool
+    ensures { λ r. ⌜ r ≡ follows s kind linkdown ⌝ }
 {
     if kind == 1 {
-        if link {
-            return s.link == 1;
+        if linkdown {
+            return s.followlink == 1;
         }
         return false;
     }
-    s.lock == 1
+    s.followlock == 1
 }
 
 // LDI for AIS, LKR for a lock report.

@@ -54,7 +54,7 @@ pub enum Input {
     Crossed,
 }
 
-// Numbers alone, so that a record that holds them can be lent by any caller. `link` and `lock` are
+// Numbers alone, so that a record that holds them can be lent by any caller. `followlink` and `followlock` are
 // the marks follow link-down and follow lock, 0 or 1.
 #[repr(C)]
 pub struct Settings {
@@ -63,8 +63,8 @@ pub struct Settings {
     pub period: u32,
     pub own: MepId,
     pub expected: MepId,
-    pub link: u8,
-    pub lock: u8,
+    pub followlink: u8,
+    pub followlock: u8,
 }
 
 // What tells one condition from another: type 1 AIS or 2 LKR, and an IF_ID, present 1 or absent 0.

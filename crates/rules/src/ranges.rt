@@ -21,8 +21,8 @@ fn circuit_fits(label: u32, discriminator: u32, period: u32) -> bool
     period <= 10_000_000
 }
 
-fn choices_fit(own: u16, expected: u16, link: u8, lock: u8) -> bool
-    ensures { λ r. ⌜ r ≡ choicesFit own expected link lock ⌝ }
+fn choices_fit(own: u16, expected: u16, followlink: u8, followlock: u8) -> bool
+    ensures { λ r. ⌜ r ≡ choicesFit own expected followlink followlock ⌝ }
 {
     if 2 <= own {
         return false;
@@ -30,10 +30,10 @@ fn choices_fit(own: u16, expected: u16, link: u8, lock: u8) -> bool
     if 2 <= expected {
         return false;
     }
-    if 2 <= link {
+    if 2 <= followlink {
         return false;
     }
-    lock < 2
+    followlock < 2
 }
 
 // Every setting in its range.
@@ -41,7 +41,7 @@ pub fn settings_fit(s: Settings) -> bool
     ensures { λ r. ⌜ r ≡ settingsFit s ⌝ }
 {
     if circuit_fits(s.label, s.discriminator, s.period) {
-        return choices_fit(s.own.kind, s.expected.kind, s.link, s.lock);
+        return choices_fit(s.own.kind, s.expected.kind, s.followlink, s.followlock);
     }
     false
 }

@@ -43,7 +43,7 @@ unfoldable pub faultBy : ℕ → ℕ → ℕ → ℕ → ℕ → ℕ → Fault
 faultBy kind flags refresh present node interface =
     record {
       kind = kind % 256;
-      link = eqb (flags / 2 % 2) 1;
+      linkdown = eqb (flags / 2 % 2) 1;
       removed = eqb (flags % 2) 1;
       refresh = refresh % 256;
       interface = ifIdBy present node interface;

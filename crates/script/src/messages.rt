@@ -89,7 +89,7 @@ pub fn fault(kind: u64, flags: u64, refresh: u64, present: u64, node: u64, inter
     let global = global_id(present);
     Fault {
         kind: small(kind),
-        link: flags / 2 % 2 == 1,
+        linkdown: flags / 2 % 2 == 1,
         removed: flags % 2 == 1,
         refresh: small(refresh),
         interface,

@@ -27,7 +27,7 @@ use Rattle.conditions.proofs.Fading.{sound-later}
 use Rattle.conditions.proofs.Taken.{taken-sound}
 use Rattle.session.specs.declared.Session.{Session}
 use Rattle.session.specs.Queries.{lockedIn, stateAt}
-use Rattle.session.specs.Steps.{opened, settled, lockedBy, unlockedAt, heardCc, heardCv, crossedAt, faultTaken, ccWritten}
+use Rattle.session.specs.Steps.{newSession, settled, lockedBy, unlockedAt, heardCc, heardCv, crossedAt, faultTaken, replySettled}
 use Rattle.session.specs.Soundness.{numbersFit, datesFit, remoteFits, ownFits, sessionSound}
 use Rattle.session.proofs.Settling.{coming-up-before}
 
@@ -101,10 +101,10 @@ bit-most true = omega arith
 bit-most false = omega arith
 
 -- opening, with settings that fit
-pub opened-sound : (settings : Settings) (reading : ℕ) → settingsFit settings ≡ true → sessionSound (opened settings reading) reading ≡ true
-unfolding opened
+pub opened-sound : (settings : Settings) (reading : ℕ) → settingsFit settings ≡ true → sessionSound (newSession settings reading) reading ≡ true
+unfolding newSession
 opened-sound settings reading e =
-    says-sound (opened settings reading) reading
+    says-sound (newSession settings reading) reading
     (record {
       settings = e;
       state = omega arith;
@@ -284,11 +284,11 @@ module _ (s : Session) (clock reading : ℕ) (h : clock ≤ reading) (sound : se
         remote = remote-kept to (fault-up (actsOn (s .settings) f) (f .kind));
       })
 
-  pub written-sound : sessionSound (ccWritten s) reading ≡ true
-  unfolding ccWritten
+  pub written-sound : sessionSound (replySettled s) reading ≡ true
+  unfolding replySettled
   written-sound =
       let x = at-reading in
-      says-sound (ccWritten s) reading
+      says-sound (replySettled s) reading
       (record {
         settings = x .settings;
         state = x .state;

@@ -16,8 +16,8 @@ use Rattle.session.specs.declared.Session.{Session}
 use Rattle.session.specs.Queries.{lockedIn, stateAt}
 
 -- a new session is DOWN, timed from its opening, with multiplier 3
-unfoldable pub opened : Settings → ℕ → Session
-opened settings reading =
+unfoldable pub newSession : Settings → ℕ → Session
+newSession settings reading =
     record {
       timed = reading;
       crossed = 0;
@@ -130,8 +130,8 @@ faultTaken s reading f =
     }
 
 -- writing a CC settles the reply owed
-unfoldable pub ccWritten : Session → Session
-ccWritten s =
+unfoldable pub replySettled : Session → Session
+replySettled s =
     record {
       timed = s .timed;
       crossed = s .crossed;

@@ -14,11 +14,11 @@ ghost use mathlib.Core.Path.{_≡_};
 ghost use mathlib.Core.Bool.{cond, not};
 ghost use Rattle.rules.specs.declared.State.the-variants.{Down};
 ghost use Rattle.rules.specs.Conditions.{actsOn, faultState};
-ghost use Rattle.session.specs.Steps.{opened, settled, lockedBy, unlockedAt, heardCc, heardCv, crossedAt, faultTaken, ccWritten};
+ghost use Rattle.session.specs.Steps.{newSession, settled, lockedBy, unlockedAt, heardCc, heardCv, crossedAt, faultTaken, replySettled};
 
 // A new session.
 pub fn opened_at(settings: Settings, reading: u64) -> Session
-    ensures { λ r. ⌜ r ≡ opened settings reading ⌝ }
+    ensures { λ r. ⌜ r ≡ newSession settings reading ⌝ }
 {
     let none = conditions::no_conditions();
     let peer = Peer {
@@ -154,7 +154,7 @@ fn follows_fault(settings: Settings, f: Fault) -> bool
     if f.removed {
         return false;
     }
-    rules::is_followed(settings, f.kind, f.link)
+    rules::is_followed(settings, f.kind, f.linkdown)
 }
 
 fn state_by_fault(acts: bool, from: State, kind: u8) -> State
@@ -184,7 +184,7 @@ pub fn fault_taken(s: Session, reading: u64, f: Fault) -> Session
 
 // A written CC settles the reply owed.
 pub fn cc_written(s: Session) -> Session
-    ensures { λ r. ⌜ r ≡ ccWritten s ⌝ }
+    ensures { λ r. ⌜ r ≡ replySettled s ⌝ }
 {
     let mut next = s;
     next.peer.owed = 0;

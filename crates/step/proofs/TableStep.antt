@@ -25,7 +25,7 @@ use Rattle.rules.specs.Calls.{Act, Close, Lock, Unlock, Receive, ReportOn, Writ
 use Rattle.rules.proofs.Bools.{split, no-way, forced}
 use Rattle.session.specs.declared.Session.{Session}
 use Rattle.session.specs.Queries.{reportAt, ccOctetsAt, cvOctetsAt}
-use Rattle.session.specs.Steps.{opened, lockedBy, unlockedAt, ccWritten}
+use Rattle.session.specs.Steps.{newSession, lockedBy, unlockedAt, replySettled}
 use Rattle.session.specs.Reception.{receivedAnswer, receivedBy}
 use Rattle.table.specs.declared.Head.{Head}
 use Rattle.table.specs.Places.{firstOn, occupiedAt, withPlace, withoutPlace, lowestFree, occupiedOf, opens, hasLabel, placeOf}
@@ -40,7 +40,7 @@ use Rattle.step.specs.declared.Request.{Request}
 use Rattle.step.specs.declared.Outcome.{Outcome}
 use Rattle.step.specs.declared.Stepped.{Stepped}
 use Rattle.step.specs.Requests.{answerTo, requestOn, requestOf, targetOf}
-use Rattle.step.specs.Stepping.{tableOf, nowhere, isPlace, soundAnswer, answerOf, headAfter, storedAt, readAnswer, readEffect, acted, stepOf, rowStep, rowAfter}
+use Rattle.step.specs.Stepping.{tableOf, nowhere, isPlace, soundAnswer, answerOf, headAfter, storedAt, readAnswer, readEffect, effectOn, stepOf, rowStep, rowAfter}
 
 -- ---- what a call says, from its outcome
 abbrev pub saidOn : ℕ → Act → Outcome → Said
@@ -169,8 +169,8 @@ module _ (row : List Session) (head : Head) (long : length row < 2 ^ 64) where
     stored f clock = rw at
 
     act-left : (a : Act) → soundAnswer s head (requestOn l a) r ≡ 0
-        → tableOf (set row (storedAt s head (requestOn l a)) (acted (requestOn l a) r)) (headAfter s head (requestOn l a)) ≡ actDone (tableOf row head) l a
-    unfolding actDone storedAt headAfter acted closed answerTo
+        → tableOf (set row (storedAt s head (requestOn l a)) (effectOn (requestOn l a) r)) (headAfter s head (requestOn l a)) ≡ actDone (tableOf row head) l a
+    unfolding actDone storedAt headAfter effectOn closed answerTo
     act-left (Close u) e =
         let w = need-passed (isPlace (s .place)) 1 0 (bar-passed (late (head .clock) u) 0 _ e .1) in
         let h : placeOf l (head .occupied) row < length row = omega (arith, ltb-true (s .place) 64 (w .0), at, full) in
@@ -183,7 +183,7 @@ module _ (row : List Session) (head : Head) (long : length row < 2 ^ 64) where
         (λ z. rw z (stored (λ x. receivedBy x u (receivedAs (x .settings) (messageOf m))) u))
         (λ z. absurd (eqb-false (messageRefusal m) 0 z (rw z at (w .1))))
     act-left ReportOn e = rw (kept r)
-    act-left (WriteCc b) e = stored ccWritten (head .clock)
+    act-left (WriteCc b) e = stored replySettled (head .clock)
     act-left (WriteCv b) e = rw (kept r)
 
 -- ---- the whole call
@@ -282,7 +282,7 @@ module _ (row : List Session) (head : Head) where
 
   -- a new session in the lowest free place
   opened-left : (g : Settings) (u : ℕ) → soundAnswer (seen (requestOf (Open g u))) head (requestOf (Open g u)) (one (requestOf (Open g u))) ≡ 0
-      → tableOf (set row (lowestFree 64 (head .occupied)) (opened g u))
+      → tableOf (set row (lowestFree 64 (head .occupied)) (newSession g u))
       (record { clock = u; occupied = withPlace (head .occupied) (lowestFree 64 (head .occupied)) }) ≡ added t g u
   unfolding added
   opened-left g u e =
@@ -294,8 +294,8 @@ module _ (row : List Session) (head : Head) where
 
   module _ (long : length row < 2 ^ 64) where
     left-sound : (c : Call) → inOrder t ≡ true → soundAnswer (seen (requestOf c)) head (requestOf c) (one (requestOf c)) ≡ 0
-        → tableOf (set row (storedAt (seen (requestOf c)) head (requestOf c)) (acted (requestOf c) (one (requestOf c)))) (headAfter (seen (requestOf c)) head (requestOf c)) ≡ done t c
-    unfolding done storedAt headAfter acted
+        → tableOf (set row (storedAt (seen (requestOf c)) head (requestOf c)) (effectOn (requestOf c) (one (requestOf c)))) (headAfter (seen (requestOf c)) head (requestOf c)) ≡ done t c
+    unfolding done storedAt headAfter effectOn
     left-sound (Tick u) o e = rw (kept row head long (one (requestOf (Tick u))))
     left-sound (Open g u) o e = opened-left g u e
     left-sound (On l a) o e = act-left row head long (seen (requestOn l a)) l (place-is l a o) (of-64 o) a e
@@ -309,4 +309,4 @@ module _ (row : List Session) (head : Head) where
         let e = eqb-true _ 0 z in
         let o = accepted-sound (requestOf c) e in
         rw (answer-number c, z) (left-sound c o (sym (number-sound (requestOf c) o) ∙ e)))
-        (λ z. rw (answer-number c, z, kept row head long (acted (requestOf c) (one (requestOf c)))))
+        (λ z. rw (answer-number c, z, kept row head long (effectOn (requestOf c) (one (requestOf c)))))

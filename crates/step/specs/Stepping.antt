@@ -14,7 +14,7 @@ use Rattle.rules.specs.Times.{late}
 use Rattle.rules.specs.Settings.{settingsFit}
 use Rattle.rules.specs.Received.{receivedAs}
 use Rattle.session.specs.declared.Session.{Session}
-use Rattle.session.specs.Steps.{opened, lockedBy, unlockedAt, ccWritten}
+use Rattle.session.specs.Steps.{newSession, lockedBy, unlockedAt, replySettled}
 use Rattle.session.specs.Reception.{receivedAnswer, receivedBy}
 use Rattle.table.specs.declared.Head.{Head}
 use Rattle.table.specs.Places.{lowestFree, occupiedOf, withPlace, withoutPlace}
@@ -67,8 +67,8 @@ unfoldable pub answerOf : Summary → Head → Request → Session → ℕ
 answerOf s head q r = need (s .sound) 26 (soundAnswer s head q r)
 
 -- a place as the set numbers it; 64 is none
-abbrev pub numbered : ℕ → ℕ
-numbered place = cond (isPlace place) place 64
+abbrev pub setPlace : ℕ → ℕ
+setPlace place = cond (isPlace place) place 64
 
 abbrev pub at : Head → ℕ → Head
 at head reading = record { clock = reading; occupied = head .occupied }
@@ -77,7 +77,7 @@ at head reading = record { clock = reading; occupied = head .occupied }
 unfoldable pub headAfter : Summary → Head → Request → Head
 headAfter s head (Tick u) = at head u
 headAfter s head (Open g u) = record { clock = u; occupied = withPlace (head .occupied) (lowestFree 64 (head .occupied)) }
-headAfter s head (Close l u) = record { clock = u; occupied = withoutPlace (head .occupied) (numbered (s .place)) }
+headAfter s head (Close l u) = record { clock = u; occupied = withoutPlace (head .occupied) (setPlace (s .place)) }
 headAfter s head (Lock l u) = at head u
 headAfter s head (Unlock l u) = at head u
 headAfter s head (Receive l m u) = at head u
@@ -106,16 +106,16 @@ readEffect r reading (Read m) = receivedBy r reading (receivedAs (r .settings) m
 readEffect r reading (Refused n) = r
 
 -- what an accepted request makes of the record
-unfoldable pub acted : Request → Session → Session
-acted (Tick u) r = r
-acted (Open g u) r = opened g u
-acted (Close l u) r = r
-acted (Lock l u) r = lockedBy r
-acted (Unlock l u) r = unlockedAt r u
-acted (Receive l m u) r = readEffect r u m
-acted (ReportOn l) r = r
-acted (WriteCc l n) r = ccWritten r
-acted (WriteCv l n) r = r
+unfoldable pub effectOn : Request → Session → Session
+effectOn (Tick u) r = r
+effectOn (Open g u) r = newSession g u
+effectOn (Close l u) r = r
+effectOn (Lock l u) r = lockedBy r
+effectOn (Unlock l u) r = unlockedAt r u
+effectOn (Receive l m u) r = readEffect r u m
+effectOn (ReportOn l) r = r
+effectOn (WriteCc l n) r = replySettled r
+effectOn (WriteCv l n) r = r
 
 -- the outcome: the answer, clock and set, and the record as it was; and the record to store. A refusal stores nothing.
 unfoldable pub stepOf : Summary → Head → Request → Session → Stepped
@@ -123,7 +123,7 @@ stepOf s head q r =
     let n = answerOf s head q r in
     record {
       outcome = record { before = r; head = cond (eqb n 0) (headAfter s head q) head; answer = n };
-      after = acted q r;
+      after = effectOn q r;
       place = cond (eqb n 0) (storedAt s head q) nowhere;
     }
 

@@ -10,7 +10,7 @@ use table::Head;
 ghost use mathlib.Core.Path.{_≡_};
 ghost use mathlib.Core.Bool.{cond};
 ghost use lib.Dec.{eqb};
-ghost use Rattle.step.specs.Stepping.{numbered, at, nowhere, headAfter, storedAt, readEffect, acted, stepOf};
+ghost use Rattle.step.specs.Stepping.{setPlace, at, nowhere, headAfter, storedAt, readEffect, effectOn, stepOf};
 
 // No row is that long.
 const NOWHERE: usize = 18_446_744_073_709_551_615;
@@ -25,7 +25,7 @@ fn head_at(head: Head, reading: u64) -> Head
 }
 
 fn place_number(place: usize) -> u32
-    ensures { λ r. ⌜ r ≡ numbered place ⌝ }
+    ensures { λ r. ⌜ r ≡ setPlace place ⌝ }
 {
     if place < 64 {
         return place as u32;
@@ -84,7 +84,7 @@ fn read_effect(r: Session, reading: u64, a: MessageAnswer) -> Session
 }
 
 fn acted_by(q: Request, r: Session) -> Session
-    ensures { λ n. ⌜ n ≡ acted q r ⌝ }
+    ensures { λ n. ⌜ n ≡ effectOn q r ⌝ }
 {
     match q {
         Request::Tick(_) => r,

@@ -12,11 +12,11 @@ use rules::Received;
 use rules::Settings;
 use session::Session;
 ghost use mathlib.Core.Path.{_≡_};
-ghost use Rattle.session.specs.Steps.{opened, settled, lockedBy, unlockedAt, ccWritten};
+ghost use Rattle.session.specs.Steps.{newSession, settled, lockedBy, unlockedAt, replySettled};
 
 // Label 100, discriminator 17, own LSP, Global_ID 65,000, Node 0a000001, Tunnel 7 and LSP 2,
 // expected the same with Node 0a000002, Tunnel 9 and LSP 4.
-pub(crate) fn settings(period: u64, link: u64, lock: u64) -> Settings
+pub(crate) fn settings(period: u64, followlink: u64, followlock: u64) -> Settings
     ensures { λ r. ⌜ r .discriminator ≡ 17 ⌝ }
 {
     let own = script::mep(1, 65_000, 167_772_161, 458_754);
@@ -27,8 +27,8 @@ pub(crate) fn settings(period: u64, link: u64, lock: u64) -> Settings
         period: script::middle(period),
         own,
         expected,
-        link: script::small(link),
-        lock: script::small(lock),
+        followlink: script::small(followlink),
+        followlock: script::small(followlock),
     }
 }
 
@@ -178,7 +178,7 @@ pub(crate) fn octets(s: Session, w: [u64; 16]) -> Session
 }
 
 pub(crate) fn write_cc(s: Session, now: u64) -> Session
-    ensures { λ r. ⌜ r ≡ ccWritten s ⌝ }
+    ensures { λ r. ⌜ r ≡ replySettled s ⌝ }
 {
     event(b"write-cc", now);
     packet(&session::cc_octets_at(s, now));

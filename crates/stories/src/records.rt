@@ -30,8 +30,8 @@ pub(crate) fn settings(s: Session, w: [u64; 16]) {
     next.label = middle(w[2]);
     next.discriminator = middle(w[3]);
     next.period = middle(w[4]);
-    next.link = small(w[7]);
-    next.lock = small(w[8]);
+    next.followlink = small(w[7]);
+    next.followlock = small(w[8]);
     let own = short(w[5]);
     let expected = short(w[6]);
     next.own.kind = own;
@@ -52,7 +52,7 @@ fn place(w: [u64; 16]) -> Condition {
         at: w[1],
         key,
         refresh: small(w[5]),
-        link: small(w[6]),
+        linkdown: small(w[6]),
     }
 }
 

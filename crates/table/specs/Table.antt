@@ -17,7 +17,7 @@ use Rattle.rules.specs.Lists.{any, once}
 use Rattle.rules.specs.Calls.{Act, Close, Lock, Unlock, Receive, ReportOn, WriteCc, WriteCv, Call, Tick, Open, On, Said, isAccepted, numberOnly, reporting, writes}
 use Rattle.session.specs.declared.Session.{Session}
 use Rattle.session.specs.Queries.{reportAt, ccOctetsAt, cvOctetsAt}
-use Rattle.session.specs.Steps.{opened, lockedBy, unlockedAt, ccWritten}
+use Rattle.session.specs.Steps.{newSession, lockedBy, unlockedAt, replySettled}
 use Rattle.session.specs.Reception.{receivedAnswer, receivedBy}
 use Rattle.session.specs.Soundness.{sessionSound}
 use Rattle.table.specs.Places.{lowestFree, occupiedOf, opens, hasLabel, placeOf}
@@ -98,13 +98,13 @@ answer t c = cond (inOrder t) (asked t c) (numberOnly c 26)
 -- what lies past a row's end is never stored
 abbrev pub absent : Session
 absent =
-    opened
+    newSession
     (record {
       label = 0;
       discriminator = 0;
       period = 0;
-      link = 0;
-      lock = 0;
+      followlink = 0;
+      followlock = 0;
       own = record { kind = 0; global = 0; node = 0; local = 0 };
       expected = record { kind = 0; global = 0; node = 0; local = 0 };
     })
@@ -120,7 +120,7 @@ altered t l f clock =
 unfoldable pub added : Table → Settings → ℕ → Table
 added t g reading =
     let place = lowestFree 64 (t .occupied) in
-    record { row = set (t .row) place (opened g reading); clock = reading; occupied = t .occupied + 2 ^ place }
+    record { row = set (t .row) place (newSession g reading); clock = reading; occupied = t .occupied + 2 ^ place }
 
 -- a place given back; the record lies there and is not looked at
 unfoldable pub closed : Table → ℕ → ℕ → Table
@@ -136,7 +136,7 @@ actDone t l (Lock u) = altered t l lockedBy u
 actDone t l (Unlock u) = altered t l (λ r. unlockedAt r u) u
 actDone t l (Receive m u) = altered t l (receiving m u) u
 actDone t l ReportOn = t
-actDone t l (WriteCc b) = altered t l ccWritten (t .clock)
+actDone t l (WriteCc b) = altered t l replySettled (t .clock)
 actDone t l (WriteCv b) = t
 
 -- what an accepted call leaves

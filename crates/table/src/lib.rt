@@ -45,8 +45,8 @@ pub fn absent() -> Session
         period: 0,
         own: id,
         expected: id,
-        link: 0,
-        lock: 0,
+        followlink: 0,
+        followlock: 0,
     };
     session::opened_at(settings, 0)
 }

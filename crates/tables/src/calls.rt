@@ -24,8 +24,8 @@ fn settings(label: u64, discriminator: u64, period: u64) -> Settings {
         period: middle(period),
         own,
         expected,
-        link: 0,
-        lock: 0,
+        followlink: 0,
+        followlock: 0,
     }
 }
 
@@ -34,8 +34,8 @@ fn asked(w: [u64; 16]) -> Settings {
     let own = 1 + small(w[7]) as u16;
     let expected = 1 + small(w[8]) as u16;
     let mut next = settings(w[2], w[3], w[4]);
-    next.link = small(w[5]);
-    next.lock = small(w[6]);
+    next.followlink = small(w[5]);
+    next.followlock = small(w[6]);
     next.own.kind = own;
     next.expected.kind = expected;
     next

@@ -24,11 +24,11 @@ fn settings_with(g: Settings, field: u64, value: u64) -> Settings {
         return next;
     }
     if field == words::LINK {
-        next.link = small(value);
+        next.followlink = small(value);
         return next;
     }
     if field == script::LOCK {
-        next.lock = small(value);
+        next.followlock = small(value);
         return next;
     }
     if field == words::OWN {
@@ -92,7 +92,7 @@ fn condition_with(c: Condition, field: u64, value: u64) -> Condition {
         return next;
     }
     if field == words::FLAG {
-        next.link = small(value);
+        next.linkdown = small(value);
         return next;
     }
     if field == words::DATE {

@@ -30,7 +30,7 @@ fn fault(number: u32, m: &[u8]) {
             let global = f.global;
             let line = heading(number, b"fault", 0)
                 .number(f.kind as u32)
-                .flag(f.link);
+                .flag(f.linkdown);
             let line = line.flag(f.removed).number(f.refresh as u32);
             with_global(with_interface(line, interface), global).show();
         },

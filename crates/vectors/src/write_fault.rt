@@ -15,7 +15,7 @@ fn write(number: u32, b: &mut [u8], f: Fault) {
 fn ais(interface: IfId, global: GlobalId) -> Fault {
     Fault {
         kind: 1,
-        link: false,
+        linkdown: false,
         removed: false,
         refresh: 1,
         interface,
@@ -42,10 +42,10 @@ fn both() -> Fault {
 }
 
 // A head with no TLV into 9 octets.
-fn head(number: u32, kind: u8, link: bool, removed: bool, refresh: u8) {
+fn head(number: u32, kind: u8, linkdown: bool, removed: bool, refresh: u8) {
     let mut f = neither();
     f.kind = kind;
-    f.link = link;
+    f.linkdown = linkdown;
     f.removed = removed;
     f.refresh = refresh;
     let mut b = [0xeeu8; 9];

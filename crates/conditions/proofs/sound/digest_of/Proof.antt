@@ -1,13 +1,13 @@
 use borrow.Author.Needs.{needs}
 use borrow.Author.Tests.{eq-eqb, ne-eqb}
-use Rattle.conditions.specs.Standing.{stands}
+use Rattle.conditions.specs.Standing.{placeStands}
 use Rattle.conditions.specs.Soundness.{placeSound}
 use Rattle.conditions.specs.Digests.{digestOf}
 use Rattle.conditions.proofs.sound.digest_of.Statement.{statement}
 use Rattle.conditions.proofs.sound.digest_of.Tie as tie
 
 pub digest-of-spec : {M : Type 1} → statement M
-unfolding digestOf placeSound stands
+unfolding digestOf placeSound placeStands
 digest-of-spec =
     tie.close
     (tie.spec (λ c κs. search needs) (λ c. rw (c .blank .ensures, eq-eqb _ _ (c .before .if1 .taken))) (λ c κs. search needs)

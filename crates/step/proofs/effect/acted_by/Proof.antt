@@ -1,12 +1,12 @@
 -- `step::acted_by` meets its contract.
 -- Assumes nothing.
 use borrow.Author.Needs.{needs}
-use Rattle.step.specs.Stepping.{acted}
+use Rattle.step.specs.Stepping.{effectOn}
 use Rattle.step.proofs.effect.acted_by.Statement.{statement}
 use Rattle.step.proofs.effect.acted_by.Tie as tie
 
 pub acted-by-spec : {M : Type 1} → statement M
-unfolding acted
+unfolding effectOn
 acted-by-spec =
     tie.close
     (tie.spec

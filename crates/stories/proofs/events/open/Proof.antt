@@ -1,4 +1,4 @@
-use Rattle.session.specs.Steps.{opened}
+use Rattle.session.specs.Steps.{newSession}
 use borrow.Author.Needs.{needs}
 use Rattle.stories.proofs.events.open.Statement.{statement}
 use Rattle.stories.proofs.events.open.Tie as tie
@@ -34,7 +34,7 @@ opened-at-requires : tie.Need-opened-at-requires
 opened-at-requires c κs = search needs
 
 returns : tie.Need-returns
-unfolding opened
+unfolding newSession
 returns c = rw (c .opened-at .ensures)
 
 pub open-spec : {M : Type 1} → statement M
