@@ -10,8 +10,9 @@ use borrow.Author.Tests.{eqb-true, eqb-false, eq-eqb, ne-eqb, not-true, not-fals
 use Rattle.octets.proofs.Chain.{and-both}
 use Rattle.rules.specs.declared.Key.{Key}
 use Rattle.rules.specs.Conditions.{sameKey}
+use Rattle.rules.specs.OneKey.{OneKey}
 use Rattle.rules.proofs.Bools.{split, no-way, both-true, same-test, refuted, true-false}
-use Rattle.rules.proofs.SameKeys.{SameSays, same-says, says-same}
+use Rattle.rules.proofs.SameKeys.{same-says, says-same}
 use Rattle.conditions.specs.declared.Condition.{Condition}
 use Rattle.conditions.specs.declared.Conditions.{Conditions}
 use Rattle.conditions.specs.declared.sound.Digest.{Digest}
@@ -56,7 +57,7 @@ blank-unlike k h = rw (tag-filled k h, ne-eqb 0 (tagOf k) (λ e. eqb-false (tagO
 
 -- equal tags and words are one key: the node, below 2 to the 32, does not reach into the interface
 module _ (a b : Key) (f : Fits a) (g : Fits b) where
-  told-same : tagOf a ≡ tagOf b → wordOf a ≡ wordOf b → SameSays a b
+  told-same : tagOf a ≡ tagOf b → wordOf a ≡ wordOf b → OneKey a b
   told-same t w =
       split (eqb (a .present) 0)
       (λ x. let p = eqb-true _ _ x in
@@ -74,7 +75,7 @@ module _ (a b : Key) (f : Fits a) (g : Fits b) where
       let v = with-id b q in
       record { kind = omega arith; present = omega (arith, p, q); place = inr (omega arith, omega arith) }))
 
-  same-told : SameSays a b → (tagOf a ≡ tagOf b) × (wordOf a ≡ wordOf b)
+  same-told : OneKey a b → (tagOf a ≡ tagOf b) × (wordOf a ≡ wordOf b)
   same-told s =
       split (eqb (a .present) 0)
       (λ x. let p = eqb-true _ _ x in

@@ -1,3 +1,4 @@
+pub mod Unsound
 pub mod Fading
 pub mod Taken
 pub mod Empties

@@ -1,4 +1,6 @@
 pub mod Bools
+pub mod Failing
+pub mod Unfit
 pub mod Ages
 pub mod States
 pub mod SameKeys

@@ -11,6 +11,7 @@ use borrow.Author.Tests.{not-true, eqb-true, eq-eqb}
 use Rattle.octets.proofs.Chain.{and-both}
 use Rattle.rules.specs.Lists.{any, only, once, without}
 use Rattle.rules.proofs.Bools.{split, both-true, or-cases, or-left, or-right, no-way, refuted, true-false, same-test}
+use Rattle.rules.proofs.Failing.{and-right}
 
 -- one element more than a list, anywhere in it
 pub data Inserted {A : Type 0} (n : A) : List A → List A → Type 0 where
@@ -39,10 +40,6 @@ joined true true c = refl
 joined true false c = refl
 joined false true c = refl
 joined false false c = refl
-
-and-false : (a : Bool) {b : Bool} → b ≡ false → a && b ≡ false
-and-false true e = e
-and-false false e = refl
 
 module _ {A : Type 0} where
   pub any-inserted : (p : A → Bool) {n : A} {xs ys : List A} → Inserted n xs ys → any p ys ≡ p n || any p xs
@@ -175,7 +172,7 @@ module _ {A : Type 0} (same : A → A → Bool) (alike : Alike same) where
         split (same k x)
         (λ e. split (p x)
         (λ q. rw (q, e) (sym (fair k x e ∙ q)))
-        (λ q. let z : p k ≡ false = fair k x e ∙ q in rw (q, e) (any-only k xs ∙ and-false (any (same k) xs) z ∙ sym z)))
+        (λ q. let z : p k ≡ false = fair k x e ∙ q in rw (q, e) (any-only k xs ∙ and-right (any (same k) xs) z ∙ sym z)))
         (λ e. split (p x) (λ q. rw (q, e) (any-only k xs)) (λ q. rw (q, e) (any-only k xs)))
 
     pub once-only : (xs : List A) → once same xs ≡ true → once same (only p xs) ≡ true

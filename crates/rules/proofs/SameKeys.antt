@@ -13,16 +13,11 @@ use Rattle.fault.specs.declared.IfId.{IfId}
 use Rattle.fault.specs.declared.IfId.the-variants.{Absent, Present}
 use Rattle.rules.specs.declared.Key.{Key}
 use Rattle.rules.specs.Conditions.{keyWith, keyOf, sameKey}
+use Rattle.rules.specs.OneKey.{OneKey}
 use Rattle.rules.proofs.Lists.{Alike}
 use Rattle.rules.proofs.Bools.{both-true, or-cases, or-left, or-right, same-test}
 
--- what one key says of two
-pub record SameSays (a b : Key) : Type 0 where
-  pub kind : a .kind ≡ b .kind
-  pub present : a .present ≡ b .present
-  pub place : (a .present ≡ 0) ⊎ ((a .node ≡ b .node) × (a .interface ≡ b .interface))
-
-pub same-says : (a b : Key) → sameKey a b ≡ true → SameSays a b
+pub same-says : (a b : Key) → sameKey a b ≡ true → OneKey a b
 unfolding sameKey
 same-says a b e =
     let x = and-both _ _ e in
@@ -33,13 +28,13 @@ same-says a b e =
       place = ⊎-elim (λ z. inl (eqb-true _ _ z)) (λ z. let w = and-both _ _ z in inr (eqb-true _ _ (w .0), eqb-true _ _ (w .1))) (or-cases _ _ (x .1));
     }
 
-pub says-same : (a b : Key) → SameSays a b → sameKey a b ≡ true
+pub says-same : (a b : Key) → OneKey a b → sameKey a b ≡ true
 unfolding sameKey
 says-same a b s =
     both-true (both-true (eq-eqb _ _ (s .kind)) (eq-eqb _ _ (s .present)))
     (⊎-elim (λ z. or-left _ (eq-eqb _ _ z)) (λ z. or-right (eqb (a .present) 0) (both-true (eq-eqb _ _ (z .0)) (eq-eqb _ _ (z .1)))) (s .place))
 
-flipped : (a b : Key) → SameSays a b → SameSays b a
+flipped : (a b : Key) → OneKey a b → OneKey b a
 flipped a b s =
     record {
       kind = sym (s .kind);

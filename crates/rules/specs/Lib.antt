@@ -6,3 +6,5 @@ pub mod Received
 pub mod Diagnostics
 pub mod Calls
 pub mod Lists
+pub mod Unfit
+pub mod OneKey

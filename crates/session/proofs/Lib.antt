@@ -1,3 +1,4 @@
+pub mod Unsound
 pub mod Settling
 pub mod Sound
 pub mod Written

@@ -2,3 +2,4 @@ pub mod Queries
 pub mod Steps
 pub mod Reception
 pub mod Soundness
+pub mod Unsound
