@@ -32,13 +32,13 @@ module _ (c : Condition) (clock : ℕ) where
       record {
         held = eqb-false _ _ (not-true _ (not-false _ f));
         wrong =
-          one-fails
-          (one-fails
-          (one-fails
-          (one-fails (one-fails (λ z. kindAbove (leb-false _ 2 z)) (λ z. presentMark (no-mark _ z))) (λ z. linkFlag (no-mark _ z)))
-          (λ z. noRefresh (omega (arith, leb-false 1 (c .refresh) z))))
-          (λ z. refreshAbove (leb-false _ 20 z)))
-          (λ z. datedAbove (leb-false _ clock z)) e;
+            one-fails
+            (one-fails
+            (one-fails
+            (one-fails (one-fails (λ z. kindAbove (leb-false _ 2 z)) (λ z. presentMark (no-mark _ z))) (λ z. linkFlag (no-mark _ z)))
+            (λ z. noRefresh (omega (arith, leb-false 1 (c .refresh) z))))
+            (λ z. refreshAbove (leb-false _ 20 z)))
+            (λ z. datedAbove (leb-false _ clock z)) e;
       })
 
   out-fails : OutOfRange c clock → fieldsSound (c .key .kind) (c .key .present) (c .linkdown) (c .refresh) (c .at) clock ≡ false

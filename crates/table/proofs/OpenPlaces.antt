@@ -10,6 +10,7 @@ use lib.Dec.{eqb}
 use lib.ListN.{length, getD}
 use Rattle.rules.specs.Lists.{any, once}
 use Rattle.rules.proofs.Bools.{split, no-way, or-cases, or-left, or-right}
+use Rattle.rules.proofs.Failing.{and-right}
 use Rattle.session.specs.declared.Session.{Session}
 use Rattle.table.specs.Places.{firstOn, occupiedAt, opens}
 use Rattle.table.proofs.OccupiedSet.{at-zero, at-suc}
@@ -102,8 +103,4 @@ module _ (same : Session → Session → Bool) (d : Session) where
       rw (sym (at-zero set) ∙ o, held-any (same r) d (set / 2) rs j (omega arith) (sym (at-suc set j) ∙ u) q)
   two-once set (r ∷ rs) (suc i) (suc j) b h o u q =
       let w = two-once (set / 2) rs i j (omega arith) (omega arith) (sym (at-suc set i) ∙ o) (sym (at-suc set j) ∙ u) q in
-      split (firstOn set) (λ a. rw a (unlike (not (any (same r) (opens (set / 2) rs))) w)) (λ a. rw a w)
-    where
-      unlike : (a : Bool) {b : Bool} → b ≡ false → a && b ≡ false
-      unlike true e = e
-      unlike false e = refl
+      split (firstOn set) (λ a. rw a (and-right (not (any (same r) (opens (set / 2) rs))) w)) (λ a. rw a w)
