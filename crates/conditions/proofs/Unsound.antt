@@ -3,7 +3,7 @@
 use Prim.Native.Nat.{ℕ, zero, suc, _<_}
 use native.Mathlib.Omega.{arith}
 use mathlib.Core.Path.{_≡_, ap}
-use mathlib.Core.Bool.{Bool, true, false, not, _&&_}
+use mathlib.Core.Bool.{true, false, not}
 use mathlib.Core.Logic.{_↔_}
 use borrow.Author.Tests.{ltb-true, leb-false, eqb-false, not-true, not-false, lt-ltb, lt-leb, ne-eqb}
 use Rattle.octets.proofs.Chain.{and-both}
@@ -16,7 +16,7 @@ use Rattle.conditions.specs.declared.Condition.{Condition}
 use Rattle.conditions.specs.declared.Conditions.{Conditions}
 use Rattle.conditions.specs.Standing.{filled, fresh}
 use Rattle.conditions.specs.Soundness.{fieldsSound, placeSound, clash, noClash, placesSound, conditionsSound}
-use Rattle.conditions.specs.Unsound.{placeAt, OutOfRange, kindAbove, presentMark, linkFlag, noRefresh, refreshAbove, datedAbove, UnsoundPlace, StandsAt, TwoOfOneKey, UnsoundConditions, placeWrong, keyTwice}
+use Rattle.conditions.specs.Unsound.{placeAt, OutOfRange, kindAbove, presentMark, linkFlag, noRefresh, refreshAbove, datedAbove, UnsoundPlace, TwoOfOneKey, UnsoundConditions, placeWrong, keyTwice}
 
 -- One place
 

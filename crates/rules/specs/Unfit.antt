@@ -1,9 +1,8 @@
 -- Settings out of range, in the words of the rules paper: label 16 to 1,048,575; local discriminator, not 0; period 1,000 to 10,000,000;
 -- MEP-ID type 0 or 1; two yes/no marks. This is 10 of open, and 26 of an open record.
 -- Assumes nothing.
-use Prim.Native.Nat.{ℕ, _<_}
+use Prim.Native.Nat.{_<_}
 use mathlib.Core.Path.{_≡_}
-use Rattle.cv.specs.declared.MepId.{MepId}
 use Rattle.rules.specs.declared.Settings.{Settings}
 
 pub data Unfit (g : Settings) : Type 0 where

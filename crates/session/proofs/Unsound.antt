@@ -1,11 +1,11 @@
 -- The test of one record fails exactly where the paper's words for 26 hold of it.
 -- Assumes nothing.
-use Prim.Native.Nat.{ℕ, _<_}
+use Prim.Native.Nat.{ℕ}
 use native.Mathlib.Omega.{arith}
 use mathlib.Core.Path.{_≡_, ap}
-use mathlib.Core.Bool.{Bool, true, false, not, _&&_, _||_}
-use mathlib.Core.Logic.{_↔_, _⊎_, inl, inr, ⊎-elim}
-use lib.Dec.{leb, eqb}
+use mathlib.Core.Bool.{true, false, not}
+use mathlib.Core.Logic.{_↔_, _⊎_, inl, inr}
+use lib.Dec.{eqb}
 use borrow.Author.Tests.{leb-false, eqb-true, eqb-false, not-false, lt-leb, ne-eqb}
 use Rattle.rules.specs.States.{isComingUp, stateOf}
 use Rattle.rules.proofs.Bools.{split, no-way}

@@ -3,10 +3,9 @@
 use Prim.Native.Nat.{ℕ, _<_}
 use native.Mathlib.Omega.{arith}
 use mathlib.Core.Path.{_≡_, ap}
-use mathlib.Core.Bool.{Bool, true, false, not, _&&_}
+use mathlib.Core.Bool.{Bool, true, false, not}
 use mathlib.Core.Logic.{_↔_}
 use lib.ListN.{length}
-use lib.Dec.{eqb}
 use borrow.Author.Tests.{eqb-true, eqb-false, not-true, not-false, eq-eqb, ne-eqb}
 use Rattle.rules.specs.Lists.{any, once}
 use Rattle.rules.specs.Calls.{Call, numberOnly}
@@ -16,10 +15,10 @@ use Rattle.session.specs.declared.Session.{Session}
 use Rattle.session.specs.Soundness.{sessionSound}
 use Rattle.session.proofs.Unsound.{session-unsound}
 use Rattle.table.specs.Places.{occupiedAt}
-use Rattle.table.specs.Table.{Table, openOf, every, sameLabel, sameDiscriminator, inOrder, asked, answer, absent}
+use Rattle.table.specs.Table.{Table, openOf, sameLabel, sameDiscriminator, inOrder, asked, answer, absent}
 use Rattle.table.specs.Disorder.{recordAt, OpenAt, Disorder, notOf64, recordUnsound, labelShared, discriminatorShared}
 use Rattle.table.proofs.Numbers.{asked-most}
-use Rattle.table.proofs.OpenPlaces.{TwoHeld, any-held, held-any, once-two, two-once}
+use Rattle.table.proofs.OpenPlaces.{any-held, held-any, once-two, two-once}
 
 module _ (t : Table) where
   open-at : (i : ℕ) → i < length (t .row) → occupiedAt (t .occupied) i ≡ true → OpenAt t i

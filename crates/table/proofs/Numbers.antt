@@ -12,7 +12,6 @@ use Rattle.octets.specs.Writing.{writing}
 use Rattle.octets.proofs.Chain.{need-most, bar-most}
 use Rattle.message.specs.Message.{messageRefusal, messageOf}
 use Rattle.message.proofs.Bounds.{message-most}
-use Rattle.rules.specs.declared.Settings.{Settings}
 use Rattle.rules.specs.declared.Received.{Received}
 use Rattle.rules.specs.declared.Received.the-variants.{CrossedMessage, HeardCc, HeardCv, FaultMessage}
 use Rattle.rules.specs.Times.{late}
