@@ -1,20 +1,22 @@
 -- Conditions fade: what stands later stood before; sound places stay sound as the clock goes on; at most four stand.
 -- Assumes nothing.
-use mathlib.Core.Path.{_≡_, refl, sym}
-use mathlib.Core.Bool.{Bool, true, false, not, _&&_, _||_}
-use mathlib.Core.Logic.{⊎-elim}
-use Prim.Native.Nat.{ℕ, _+_, _≤_, _<_}
+use mathlib.Core.Path.{_≡_}
+use mathlib.Core.Bool.{Bool, true, false, not, _&&_}
+use Prim.Native.Nat.{ℕ, _≤_, _<_}
 use native.Mathlib.Omega.{arith}
-use borrow.Author.Tests.{ltb-true, leb-true, lt-ltb, le-leb, not-true}
+use borrow.Author.Tests.{eqb-false, not-true}
 use Rattle.octets.specs.Choice.{bitOf}
 use Rattle.octets.proofs.Chain.{and-both}
 use Rattle.rules.specs.Conditions.{sameKey}
 use Rattle.rules.proofs.Ages.{within-before}
-use Rattle.rules.proofs.Bools.{both-true, or-cases, or-left, or-right, refuted, true-false}
+use Rattle.rules.proofs.Bools.{split, both-true, or-left, refuted, forced, true-false}
+use Rattle.rules.proofs.Failing.{at-most}
 use Rattle.conditions.specs.declared.Condition.{Condition}
 use Rattle.conditions.specs.declared.Conditions.{Conditions}
 use Rattle.conditions.specs.Standing.{filled, fresh, placeStands, countAt}
-use Rattle.conditions.specs.Soundness.{fieldsSound, placeSound, placesSound, clash, noClash, conditionsSound}
+use Rattle.conditions.specs.Soundness.{placeSound, placesSound, clash, noClash, conditionsSound}
+use Rattle.conditions.specs.Unsound.{OutOfRange, kindAbove, presentMark, linkFlag, noRefresh, refreshAbove, datedAbove}
+use Rattle.conditions.proofs.Unsound.{place-unsound}
 
 bit-most : (b : Bool) → bitOf b ≤ 1
 bit-most true = omega arith
@@ -39,45 +41,34 @@ pub record PlaceSays (c : Condition) (clock : ℕ) : Type 0 where
   pub high : c .refresh ≤ 20
   pub date : c .at ≤ clock
 
-fields-say : (c : Condition) (clock : ℕ) → fieldsSound (c .key .kind) (c .key .present) (c .linkdown) (c .refresh) (c .at) clock ≡ true → PlaceSays c clock
-fields-say c clock e =
-    let a = and-both _ _ e in
-    let b = and-both _ _ (a .0) in
-    let d = and-both _ _ (b .0) in
-    let f = and-both _ _ (d .0) in
-    let g = and-both _ _ (f .0) in
-    record {
-      kind = leb-true _ _ (g .0);
-      present = ltb-true _ _ (g .1);
-      linkdown = ltb-true _ _ (f .1);
-      low = leb-true _ _ (d .1);
-      high = leb-true _ _ (b .1);
-      date = leb-true _ _ (a .1);
-    }
-
-say-fields : (c : Condition) (clock : ℕ) → PlaceSays c clock → fieldsSound (c .key .kind) (c .key .present) (c .linkdown) (c .refresh) (c .at) clock ≡ true
-say-fields c clock s =
-    rw (
-      le-leb _ _ (s .kind),
-      lt-ltb (c .key .present) 2 (s .present),
-      lt-ltb (c .linkdown) 2 (s .linkdown),
-      le-leb 1 (c .refresh) (s .low),
-      le-leb _ _ (s .high),
-      le-leb _ _ (s .date),
-    )
-
 pub place-filled : (c : Condition) (clock : ℕ) → PlaceSays c clock → placeSound c clock ≡ true
-unfolding placeSound
-place-filled c clock s = or-right (not (filled c)) (say-fields c clock s)
+place-filled c clock s = forced (placeSound c clock) (λ e. no (place-unsound c clock .0 e .wrong))
+  where
+    no : OutOfRange c clock → ⊥
+    no (kindAbove h) = omega (arith, s .kind)
+    no (presentMark h) = omega (arith, s .present)
+    no (linkFlag h) = omega (arith, s .linkdown)
+    no (noRefresh h) = omega (arith, s .low)
+    no (refreshAbove h) = omega (arith, s .high)
+    no (datedAbove h) = omega (arith, s .date)
 
 pub place-empty : (c : Condition) (clock : ℕ) → filled c ≡ false → placeSound c clock ≡ true
 unfolding placeSound
 place-empty c clock e = or-left {a = not (filled c)} _ (rw e)
 
 pub place-says : (c : Condition) (clock : ℕ) → placeSound c clock ≡ true → filled c ≡ true → PlaceSays c clock
-unfolding placeSound
 place-says c clock e f =
-    ⊎-elim (λ z. absurd (true-false f (not-true _ z))) (λ z. fields-say c clock z) (or-cases (not (filled c)) _ e)
+    record {
+      kind = at-most _ 2 (λ h. no (kindAbove h));
+      present = omega (arith, at-most (c .key .present) 1 (λ h. no (presentMark h)));
+      linkdown = omega (arith, at-most (c .linkdown) 1 (λ h. no (linkFlag h)));
+      low = at-most 1 _ (λ h. no (noRefresh (omega arith)));
+      high = at-most _ 20 (λ h. no (refreshAbove h));
+      date = at-most _ clock (λ h. no (datedAbove h));
+    }
+  where
+    no : OutOfRange c clock → ⊥
+    no w = true-false e (place-unsound c clock .1 (record { held = eqb-false _ _ (not-true _ f); wrong = w }))
 
 module _ (now later : ℕ) (h : now ≤ later) where
   pub fresh-before : (c : Condition) → fresh c later ≡ true → fresh c now ≡ true
@@ -89,14 +80,12 @@ module _ (now later : ℕ) (h : now ≤ later) where
   stands-before c e = let a = and-both (filled c) (fresh c later) e in both-true (a .0) (fresh-before c (a .1))
 
   place-later : (c : Condition) → placeSound c now ≡ true → placeSound c later ≡ true
-  unfolding placeSound
   place-later c e =
-      ⊎-elim (λ z. or-left _ z)
-      (λ z. let s = fields-say c now z in
-      or-right (not (filled c))
-      (say-fields c later
-      (record { kind = s .kind; present = s .present; linkdown = s .linkdown; low = s .low; high = s .high; date = omega (arith, s .date) })))
-      (or-cases (not (filled c)) _ e)
+      split (filled c)
+      (λ f. let s = place-says c now e f in
+      place-filled c later
+      (record { kind = s .kind; present = s .present; linkdown = s .linkdown; low = s .low; high = s .high; date = omega (arith, s .date) }))
+      (λ f. place-empty c later f)
 
   clash-before : (a b : Condition) → clash a b later ≡ true → clash a b now ≡ true
   unfolding clash

@@ -1,12 +1,15 @@
--- What settings that fit say.
+-- What settings that fit say: none of the words for settings out of range holds of them.
 -- Assumes nothing.
 use mathlib.Core.Path.{_≡_}
 use mathlib.Core.Bool.{true}
-use Prim.Native.Nat.{ℕ, _≤_, _<_}
-use borrow.Author.Tests.{ltb-true, leb-true, eqb-false, not-true}
-use Rattle.octets.proofs.Chain.{and-both}
+use Prim.Native.Nat.{_≤_, _<_}
+use native.Mathlib.Omega.{arith}
 use Rattle.rules.specs.declared.Settings.{Settings}
 use Rattle.rules.specs.Settings.{settingsFit}
+use Rattle.rules.specs.Unfit.{Unfit, labelBelow, labelAbove, noDiscriminator, periodBelow, periodAbove, ownKind, expectedKind, linkMark, lockMark}
+use Rattle.rules.proofs.Bools.{true-false}
+use Rattle.rules.proofs.Failing.{at-most}
+use Rattle.rules.proofs.Unfit.{settings-unfit}
 
 pub record SettingsSay (s : Settings) : Type 0 where
   pub labelLow : 16 ≤ s .label
@@ -20,24 +23,18 @@ pub record SettingsSay (s : Settings) : Type 0 where
   pub followlock : s .followlock < 2
 
 pub settings-say : (s : Settings) → settingsFit s ≡ true → SettingsSay s
-unfolding settingsFit
 settings-say s e =
-    let a = and-both _ _ e in
-    let b = and-both _ _ (a .0) in
-    let c = and-both _ _ (b .0) in
-    let l = and-both _ _ (c .0) in
-    let p = and-both _ _ (b .1) in
-    let d = and-both _ _ (a .1) in
-    let f = and-both _ _ (d .0) in
-    let g = and-both _ _ (f .0) in
     record {
-      labelLow = leb-true _ _ (l .0);
-      labelHigh = leb-true _ _ (l .1);
-      discriminator = eqb-false _ _ (not-true _ (c .1));
-      periodLow = leb-true _ _ (p .0);
-      periodHigh = leb-true _ _ (p .1);
-      own = ltb-true _ _ (g .0);
-      expected = ltb-true _ _ (g .1);
-      followlink = ltb-true _ _ (f .1);
-      followlock = ltb-true _ _ (d .1);
+      labelLow = at-most 16 _ (λ h. no (labelBelow h));
+      labelHigh = at-most _ 1048575 (λ h. no (labelAbove h));
+      discriminator = λ h. no (noDiscriminator h);
+      periodLow = at-most 1000 _ (λ h. no (periodBelow h));
+      periodHigh = at-most _ 10000000 (λ h. no (periodAbove h));
+      own = omega (arith, at-most (s .own .kind) 1 (λ h. no (ownKind h)));
+      expected = omega (arith, at-most (s .expected .kind) 1 (λ h. no (expectedKind h)));
+      followlink = omega (arith, at-most (s .followlink) 1 (λ h. no (linkMark h)));
+      followlock = omega (arith, at-most (s .followlock) 1 (λ h. no (lockMark h)));
     }
+  where
+    no : Unfit s → ⊥
+    no w = true-false e (settings-unfit s .1 w)

@@ -1,14 +1,13 @@
 -- Every step keeps a sound record sound at its reading.
 -- Assumes nothing.
 use mathlib.Core.Path.{_≡_, refl, sym, ap, _∙_}
-use mathlib.Core.Bool.{Bool, true, false, cond, not, _&&_, _||_}
+use mathlib.Core.Bool.{Bool, true, false, cond, _||_}
 use mathlib.Core.Logic.{⊎-elim}
 use Prim.Native.Nat.{ℕ, _≤_, _<_}
 use native.Mathlib.Omega.{arith}
 use lib.Dec.{leb, eqb}
-use borrow.Author.Tests.{leb-true, le-leb, eqb-true, ne-eqb, not-true}
+use borrow.Author.Tests.{leb-true, leb-false, le-leb, lt-leb, eqb-false, ne-eqb}
 use Rattle.octets.specs.Choice.{bitOf}
-use Rattle.octets.proofs.Chain.{and-both}
 use Rattle.bfd.specs.declared.Packet.{Packet}
 use Rattle.fault.specs.declared.Fault.{Fault}
 use Rattle.rules.specs.declared.Settings.{Settings}
@@ -18,18 +17,23 @@ use Rattle.rules.specs.declared.Input.the-variants.{Crossed, LinkDown, LockRepo
 use Rattle.rules.specs.States.{moved, received, isComingUp, stored, stateOf}
 use Rattle.rules.specs.Settings.{settingsFit}
 use Rattle.rules.specs.Conditions.{faultInput, actsOn, faultState}
-use Rattle.rules.proofs.Bools.{split, both-true, or-cases, or-left, or-right, no-way, forced}
+use Rattle.rules.proofs.Bools.{split, or-cases, or-left, or-right, no-way, forced, true-false}
+use Rattle.rules.proofs.Failing.{at-most, both-fail}
+use Rattle.rules.proofs.Unfit.{settings-unfit}
 use Rattle.rules.proofs.States.{state-stored, stored-fits, lowered, byLinkDown, byLockReport, crossed-up}
 use Rattle.conditions.specs.declared.Conditions.{Conditions}
 use Rattle.conditions.specs.Soundness.{placeSound, placesSound, clash, noClash, conditionsSound}
 use Rattle.conditions.specs.Taking.{takenIn}
 use Rattle.conditions.proofs.Fading.{sound-later}
 use Rattle.conditions.proofs.Taken.{taken-sound}
+use Rattle.conditions.proofs.Unsound.{conditions-unsound}
 use Rattle.session.specs.declared.Session.{Session}
 use Rattle.session.specs.Queries.{lockedIn, stateAt}
 use Rattle.session.specs.Steps.{newSession, settled, lockedBy, unlockedAt, heardCc, heardCv, crossedAt, faultTaken, replySettled}
-use Rattle.session.specs.Soundness.{numbersFit, datesFit, remoteFits, ownFits, sessionSound}
+use Rattle.session.specs.Soundness.{sessionSound}
+use Rattle.session.specs.Unsound.{UnsoundSession, settingsUnfit, stateAbove, noMultiplier, diagnosticAbove, owedMark, crossingMark, timedAbove, crossedAbove, conditionsUnsound, noRemote}
 use Rattle.session.proofs.Settling.{coming-up-before}
+use Rattle.session.proofs.Unsound.{up-told, told-up, session-unsound}
 
 -- what a sound record says
 pub record Says (s : Session) (clock : ℕ) : Type 0 where
@@ -44,52 +48,38 @@ pub record Says (s : Session) (clock : ℕ) : Type 0 where
   pub remote : isComingUp (stateOf (s .state)) ≡ true → s .peer .remote ≡ 0 → ⊥
   pub conditions : conditionsSound (s .conditions) clock ≡ true
 
-remote-says : (state remote : ℕ) → remoteFits state remote ≡ true → isComingUp (stateOf state) ≡ true → remote ≡ 0 → ⊥
-remote-says state remote e up z =
-    ⊎-elim (λ a. no-way up (not-true _ a)) (λ a. no-way (rw z at a) refl) (or-cases (not (isComingUp (stateOf state))) (not (eqb remote 0)) e)
-
-says-remote : (state remote : ℕ) → (isComingUp (stateOf state) ≡ true → remote ≡ 0 → ⊥) → remoteFits state remote ≡ true
-says-remote state remote h =
-    split (isComingUp (stateOf state)) (λ up. rw (up, ne-eqb remote 0 (h up))) (λ down. rw down)
-
 pub sound-says : (s : Session) (clock : ℕ) → sessionSound s clock ≡ true → Says s clock
-unfolding sessionSound ownFits
 sound-says s clock e =
-    let a = and-both _ _ e in
-    let b = and-both _ _ (a .0) in
-    let c = and-both _ _ (b .1) in
-    let d = and-both _ _ (c .0) in
-    let n = and-both _ _ (d .0) in
-    let n1 = and-both _ _ (n .0) in
-    let n2 = and-both _ _ (n1 .0) in
-    let n3 = and-both _ _ (n2 .0) in
-    let t = and-both _ _ (d .1) in
     record {
-      settings = b .0;
-      state = leb-true _ _ (n3 .0);
-      multiplier = leb-true _ _ (n3 .1);
-      diagnostic = leb-true _ _ (n2 .1);
-      owed = leb-true _ _ (n1 .1);
-      crossing = leb-true _ _ (n .1);
-      timed = leb-true _ _ (t .0);
-      crossed = t .1;
-      remote = remote-says (s .state) (s .peer .remote) (c .1);
-      conditions = a .1;
+      settings = forced _ (λ z. no (settingsUnfit (settings-unfit (s .settings) .0 z)));
+      state = at-most _ 4 (λ h. no (stateAbove h));
+      multiplier = at-most 1 _ (λ h. no (noMultiplier (omega arith)));
+      diagnostic = at-most _ 31 (λ h. no (diagnosticAbove h));
+      owed = at-most _ 1 (λ h. no (owedMark h));
+      crossing = at-most _ 1 (λ h. no (crossingMark h));
+      timed = at-most _ clock (λ h. no (timedAbove h));
+      crossed = forced _ (both-fail (λ m h. no (crossedAbove (eqb-false _ _ m) (leb-false _ clock h))));
+      remote = λ up z. no (noRemote (up-told (s .state) up) z);
+      conditions = forced _ (λ z. no (conditionsUnsound (conditions-unsound (s .conditions) clock .0 z)));
     }
+  where
+    no : UnsoundSession s clock → ⊥
+    no w = true-false e (session-unsound s clock .1 w)
 
 pub says-sound : (s : Session) (clock : ℕ) → Says s clock → sessionSound s clock ≡ true
-unfolding sessionSound ownFits
-says-sound s clock x =
-    both-true
-    (both-true (x .settings)
-    (both-true
-    (both-true
-    (both-true
-    (both-true (both-true (both-true (le-leb _ _ (x .state)) (le-leb 1 (s .peer .multiplier) (x .multiplier))) (le-leb _ _ (x .diagnostic))) (le-leb _ _ (x .owed)))
-    (le-leb _ _ (x .crossing)))
-    (both-true (le-leb _ _ (x .timed)) (x .crossed)))
-    (says-remote (s .state) (s .peer .remote) (x .remote))))
-    (x .conditions)
+says-sound s clock x = forced (sessionSound s clock) (λ e. no (session-unsound s clock .0 e))
+  where
+    no : UnsoundSession s clock → ⊥
+    no (settingsUnfit w) = true-false (x .settings) (settings-unfit (s .settings) .1 w)
+    no (stateAbove h) = omega (arith, x .state)
+    no (noMultiplier h) = omega (arith, x .multiplier)
+    no (diagnosticAbove h) = omega (arith, x .diagnostic)
+    no (owedMark h) = omega (arith, x .owed)
+    no (crossingMark h) = omega (arith, x .crossing)
+    no (timedAbove h) = omega (arith, x .timed)
+    no (crossedAbove m h) = true-false (x .crossed) (rw (ne-eqb _ 0 m, lt-leb _ clock h))
+    no (conditionsUnsound w) = true-false (x .conditions) (conditions-unsound (s .conditions) clock .1 w)
+    no (noRemote u z) = x .remote (told-up (s .state) u) z
 
 -- a crossing's date at a later clock
 date-later : (crossing crossed now later : ℕ) → now ≤ later → eqb crossing 0 || leb crossed now ≡ true → eqb crossing 0 || leb crossed later ≡ true

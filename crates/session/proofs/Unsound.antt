@@ -17,14 +17,14 @@ use Rattle.session.specs.Soundness.{ownFits, sessionSound}
 use Rattle.session.specs.Unsound.{UnsoundSession, settingsUnfit, stateAbove, noMultiplier, diagnosticAbove, owedMark, crossingMark, timedAbove, crossedAbove, conditionsUnsound, noRemote}
 
 -- INIT is 2 and UP is 3
-up-told : (n : ℕ) → not (isComingUp (stateOf n)) ≡ false → (n ≡ 2) ⊎ (n ≡ 3)
+pub up-told : (n : ℕ) → isComingUp (stateOf n) ≡ true → (n ≡ 2) ⊎ (n ≡ 3)
 up-told n e =
     split (eqb n 2) (λ z. inl (eqb-true n 2 z))
     (λ z. split (eqb n 3) (λ y. inr (eqb-true n 3 y))
-    (λ y. no-way (not-false (isComingUp (stateOf n)) e)
+    (λ y. no-way e
     (split (eqb n 0) (λ x. rw x) (λ x. split (eqb n 1) (λ w. rw (x, w)) (λ w. rw (x, w, z, y))))))
 
-told-up : (n : ℕ) → (n ≡ 2) ⊎ (n ≡ 3) → isComingUp (stateOf n) ≡ true
+pub told-up : (n : ℕ) → (n ≡ 2) ⊎ (n ≡ 3) → isComingUp (stateOf n) ≡ true
 told-up n (inl e) = ap (λ (m : ℕ). isComingUp (stateOf m)) e
 told-up n (inr e) = ap (λ (m : ℕ). isComingUp (stateOf m)) e
 
@@ -42,7 +42,7 @@ module _ (r : Session) (clock : ℕ) where
       (λ e. owedMark (leb-false _ 1 e)))
       (λ e. crossingMark (leb-false _ 1 e)))
       (one-fails (λ e. timedAbove (leb-false _ clock e)) (both-fail (λ m e. crossedAbove (eqb-false _ _ m) (leb-false _ clock e)))))
-      (both-fail (λ u e. noRemote (up-told _ u) (nought _ e)))
+      (both-fail (λ u e. noRemote (up-told _ (not-false _ u)) (nought _ e)))
 
   told : sessionSound r clock ≡ false → UnsoundSession r clock
   unfolding sessionSound
