@@ -1,5 +1,5 @@
--- The clauses of 26 for the four places: each field in its range, no date above the clock, no two standing conditions of one key.
--- Nothing is asked of an empty place.
+-- 26 for the four places, as the code tests it: each field in its range, no date above the clock, no two standing conditions of one key.
+-- Nothing is asked of an empty place. What 26 means is said in Unsound, and the test is proved to fail exactly there.
 -- Assumes nothing.
 use Prim.Native.Nat.{ℕ}
 use mathlib.Core.Bool.{Bool, not, _&&_, _||_}

@@ -1,4 +1,4 @@
--- The clauses of 26 for one record at a clock.
+-- 26 for one record at a clock, as the code tests it. What 26 means is said in Unsound, and the test is proved to fail exactly there.
 -- Assumes nothing.
 use Prim.Native.Nat.{ℕ, _^_, _<_}
 use mathlib.Core.Bool.{Bool, not, _&&_, _||_}

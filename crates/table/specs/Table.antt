@@ -1,4 +1,6 @@
--- The table of records: what a call says and what it leaves. This is what the code is proved to do; nobody has to believe it.
+-- The table of records: what a call says and what it leaves. This is what the code is proved to do. For a table that calls have made from
+-- an empty one nobody has to believe it: demand 3 says there what the calls say. For any other lent row it is the promise itself, and 26
+-- is told in words in Disorder.
 -- Assumes nothing.
 use Prim.Native.Nat.{ℕ, _+_, _-_, _^_}
 use mathlib.Core.Bool.{Bool, true, false, cond, not, _&&_, _||_}
