@@ -27,7 +27,7 @@ use Rattle.meaning.specs.Stories.{Story}
 use Rattle.meaning.specs.Standing.{crossing, loss, stands, keysOf, conditions, report}
 use Rattle.meaning.specs.Histories.{History, start, after, clockOf, story, labels}
 use Rattle.meaning.specs.Answers.{receivedNumber, receiveNumber, actSaid, saysOf, says}
-use Rattle.meaning.specs.Accounts.{Took, ReceivedSince, AccountsForCrossing, AccountsForLoss, AccountsForCondition, AccountsForHeldBack}
+use Rattle.meaning.specs.Accounts.{Took, ReceivedSince, AccountsForCrossing, AccountsForLoss, AccountsForCondition, AccountedKeys, AccountsForHeldBack}
 use Rattle.meaning.proofs.Crossings.{crossing-accounted}
 use Rattle.meaning.proofs.Conditions.{condition-accounted}
 use Rattle.meaning.proofs.Losses.{loss-accounted}
@@ -101,17 +101,26 @@ module _ (h : History) (l : ℕ) (s : Story) (o : story l h ≡ some s) (now : �
       alarm-off : loss now s ≡ true → (conditions now s ≡ 0 → ⊥) → bitOf (lossAlarm (loss now s) (conditions now s)) ≡ 0
       alarm-off a z = ap (λ (b : Bool). bitOf b) (ap (λ (b : Bool). loss now s && b) (ne-eqb (conditions now s) 0 z) ∙ ap (λ (b : Bool). b && false) a)
 
-  pub shown-conditions : (keys : List Key) → once sameKey keys ≡ true → ((key : Key) → (any (sameKey key) keys ≡ true) ↔ ((p : ℕ) × AccountsForCondition h l key now p))
-      → report now s .conditions ≡ length keys
+  -- the keys that stand are those accounted for, and the report shows their number
+  pub shown-conditions : (keys : List Key) × AccountedKeys h l now keys × (report now s .conditions ≡ length keys)
   unfolding report conditions
-  shown-conditions keys once′ each =
-      same-length sameKey keys-alike (only (stands now s) (keysOf s)) keys
-      (once-only sameKey keys-alike (stands now s) (λ a b e. stands-alike a b e now s) (keysOf s) (keys-once s)) once′
-      (λ key.
-      keys-standing now s key
-      ∙ same-test (stands now s key) (any (sameKey key) keys)
-      (λ e. each key .1 (condition-accounted h l s o key now .0 e))
-      (λ e. let w = each key .0 e in condition-accounted h l s o key now .1 (w .0) (w .1)))
+  shown-conditions = (
+    only (stands now s) (keysOf s),
+    record {
+      each-once = once-only sameKey keys-alike (stands now s) (λ a b e. stands-alike a b e now s) (keysOf s) (keys-once s);
+      exactly = λ key.
+          let a = condition-accounted h l s o key now in
+          (λ e. a .0 (sym (keys-standing now s key) ∙ e), λ w. keys-standing now s key ∙ a .1 (w .0) (w .1));
+    },
+    refl,
+  )
+
+-- any list of the keys accounted for has one length
+pub one-count : (h : History) (l now : ℕ) (xs ys : List Key) → AccountedKeys h l now xs → AccountedKeys h l now ys → length xs ≡ length ys
+one-count h l now xs ys a b =
+    same-length sameKey keys-alike xs ys (a .each-once) (b .each-once)
+    (λ key.
+    same-test (any (sameKey key) xs) (any (sameKey key) ys) (λ e. b .exactly key .1 (a .exactly key .0 e)) (λ e. a .exactly key .1 (b .exactly key .0 e)))
 
 -- a message that was accepted was not refused by its reader
 read-there : (o : Option Story) (m : List ℕ) (t : ℕ) → receiveNumber o m t ≡ 0 → messageRefusal m ≡ 0

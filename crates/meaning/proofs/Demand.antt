@@ -159,8 +159,9 @@ demand3 row e cs =
           let f = ap (λ (x : Said). x .report .alarm) (told-report l (s .0) (s .1)) in
           let a = shown-held-back (w .past) l (s .0) (s .1) (clockOf (w .past)) in
           (λ k. a .0 (sym e ∙ k .0, sym f ∙ k .1), λ k. let b = a .1 k in (e ∙ b .0, f ∙ b .1));
-      conditions = λ l o keys q k. let s = open-story (story l (w .past)) o in
-          ap (λ (x : Said). x .report .conditions) (told-report l (s .0) (s .1)) ∙ shown-conditions (w .past) l (s .0) (s .1) (clockOf (w .past)) keys q k;
+      conditions = λ l o. let s = open-story (story l (w .past)) o in
+          let a = shown-conditions (w .past) l (s .0) (s .1) (clockOf (w .past)) in
+          (a .0, a .1, ap (λ (x : Said). x .report .conditions) (told-report l (s .0) (s .1)) ∙ a .2);
       fresh = λ l p held. condition-fresh (w .past) (G .right) l (clockOf (w .past)) p (held .condition .0) (held .condition .1);
       timer = timer-agrees (w .past) (G .right);
       untouched = λ other f ds l x y p q k. same-made l x y (all-at l (G .lived .all l) p) (all-at l (good-play (begin other) ds (good-begin other f) .lived .all l) q) k;

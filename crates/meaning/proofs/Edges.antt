@@ -1,7 +1,6 @@
 -- The edges, one statement over their list, by computation.
 -- Assumes nothing.
-use mathlib.Core.Path.{_≡_, refl}
-use mathlib.Core.List.{List, [], _∷_}
+use mathlib.Core.Path.{refl}
 use Rattle.rules.specs.Times.{late, past, within}
 use Rattle.rules.specs.Settings.{settingsFit}
 use Rattle.rules.specs.Lists.{any, only, once}
@@ -23,13 +22,8 @@ use Rattle.meaning.specs.Stories.{settingsOf}
 use Rattle.meaning.specs.Standing.{locked, crossing, timedFrom, multiplierOf, loss, state, stateAt, remoteDiagnostic, remoteOf, owed, stands, followedLast, keysOf, conditions, followed, report, diagnostic, packet, ccWritten, cvWritten}
 use Rattle.meaning.specs.Histories.{clockOf, story, labels}
 use Rattle.meaning.specs.Answers.{rival, openNumber, actSaid, saysOf, says}
-use Rattle.meaning.specs.Edges.{Edge, told-all, lastSaid, edges}
-
--- every edge of a list holds
-unfoldable pub Hold : List Edge → Type 0
-Hold [] = Unit {0}
-Hold (e ∷ es) = (lastSaid e ≡ e .said) × Hold es
+use Rattle.meaning.specs.Edges.{told-all, lastSaid, Hold, edges}
 
 pub edges-hold : Hold edges
 unfolding Hold edges lastSaid told-all says saysOf actSaid openNumber rival clockOf story labels late past within settingsFit any only once receivedAs sameKey follows writing headerRefusal channelRefusal kindRefusal packetOf ruleRefusal yourRefusal controlRefusal ccRefusal packetOctets mepOctets sameMepId mepRefusal cvRefusal mepPart tlvsOf rangeRefusal headRefusal refusalWith faultRefusal fieldsWith faultOf faultOctets messageRefusal messageOf settingsOf locked crossing timedFrom multiplierOf loss state stateAt remoteDiagnostic remoteOf owed stands followedLast keysOf conditions followed report diagnostic packet ccWritten cvWritten
-edges-hold = (refl, (refl, (refl, (refl, (refl, (refl, (refl, (refl, (refl, (refl, (refl, (refl, (refl, tt)))))))))))))
+edges-hold = (refl, (refl, (refl, (refl, (refl, (refl, (refl, (refl, (refl, (refl, (refl, (refl, (refl, (refl, (refl, tt)))))))))))))))

@@ -4,7 +4,8 @@
 use Prim.Native.Nat.{ℕ, suc, _+_, _*_, _<_}
 use mathlib.Core.Path.{_≡_}
 use mathlib.Core.Bool.{true, false}
-use mathlib.Core.Logic.{_⊎_}
+use mathlib.Core.List.{List}
+use mathlib.Core.Logic.{_⊎_, _↔_}
 use Rattle.bfd.specs.declared.Packet.{Packet}
 use Rattle.fault.specs.declared.Fault.{Fault}
 use Rattle.message.specs.Message.{messageOf}
@@ -14,6 +15,7 @@ use Rattle.rules.specs.declared.Received.{Received}
 use Rattle.rules.specs.declared.Received.the-variants.{CrossedMessage, HeardCc, HeardCv, FaultMessage}
 use Rattle.rules.specs.Received.{receivedAs}
 use Rattle.rules.specs.Conditions.{keyOf, sameKey}
+use Rattle.rules.specs.Lists.{any, once}
 use Rattle.rules.specs.Calls.{Close, Lock, Unlock, Receive, Call, Open, On, Said, isAccepted}
 use Rattle.meaning.specs.Histories.{History, start, after}
 
@@ -105,6 +107,11 @@ pub record AccountsForCondition (h : History) (l : ℕ) (key : Key) (now p : ℕ
   pub latest : (q u : ℕ) (other : Fault) → p < q → ReceivedSince h l o settings q u (FaultMessage other) → sameKey (keyOf other) key ≡ true → ⊥
   pub present : fault .removed ≡ false
   pub fresh : now < reading + 3500000 * fault .refresh
+
+-- the keys so accounted for: a list that has each of them once and no other key
+pub record AccountedKeys (h : History) (l now : ℕ) (keys : List Key) : Type 0 where
+  pub each-once : once sameKey keys ≡ true
+  pub exactly : (key : Key) → (any (sameKey key) keys ≡ true) ↔ ((p : ℕ) × AccountsForCondition h l key now p)
 
 -- for a held-back alarm: a loss is accounted for, and those of its standing conditions account for the alarm
 pub record AccountsForHeldBack (h : History) (l now p : ℕ) : Type 0 where

@@ -10,8 +10,7 @@ use lib.ListN.{length}
 use lib.Dec.{eqb}
 use Rattle.rules.specs.declared.Key.{Key}
 use Rattle.rules.specs.declared.Report.{Report}
-use Rattle.rules.specs.Conditions.{sameKey}
-use Rattle.rules.specs.Lists.{any, once}
+use Rattle.rules.specs.Lists.{once}
 use Rattle.rules.specs.Calls.{Call, On, ReportOn, reporting}
 use Rattle.session.specs.declared.Session.{Session}
 use Rattle.table.specs.Places.{occupiedOf}
@@ -20,7 +19,7 @@ use Rattle.meaning.specs.Stories.{Story, settingsOf}
 use Rattle.meaning.specs.Standing.{report}
 use Rattle.meaning.specs.Histories.{clockOf, story, labels}
 use Rattle.meaning.specs.Answers.{isOpen}
-use Rattle.meaning.specs.Accounts.{AccountsForCrossing, AccountsForLoss, AccountsForCondition, AccountsForHeldBack}
+use Rattle.meaning.specs.Accounts.{AccountsForCrossing, AccountsForLoss, AccountedKeys, AccountsForHeldBack}
 use Rattle.meaning.specs.Timer.{eagerState, shown}
 use Rattle.meaning.specs.Worlds.{pastOf, tableAfter, Right, Never}
 use Rattle.meaning.specs.Lives.{Made, lives, askedIn}
@@ -45,10 +44,9 @@ pub record Demand3 (row : List Session) (cs : List Call) : Type 0 where
   pub held-back : (l : ℕ) → isOpen (story l (pastOf row cs)) ≡ true
       → ((reportOn (tableAfter row cs) l .loss ≡ 1) × (reportOn (tableAfter row cs) l .alarm ≡ 0))
       ↔ ((p : ℕ) × AccountsForHeldBack (pastOf row cs) l (clockOf (pastOf row cs)) p)
-  -- the number of conditions shown is that of the keys so accounted for
-  pub conditions : (l : ℕ) → isOpen (story l (pastOf row cs)) ≡ true → (keys : List Key) → once sameKey keys ≡ true
-      → ((key : Key) → (any (sameKey key) keys ≡ true) ↔ ((p : ℕ) × AccountsForCondition (pastOf row cs) l key (clockOf (pastOf row cs)) p))
-      → reportOn (tableAfter row cs) l .conditions ≡ length keys
+  -- the number of conditions shown is that of the keys so accounted for: there is a list of exactly these, and the number is its length
+  pub conditions : (l : ℕ) → isOpen (story l (pastOf row cs)) ≡ true
+      → (keys : List Key) × AccountedKeys (pastOf row cs) l (clockOf (pastOf row cs)) keys × (reportOn (tableAfter row cs) l .conditions ≡ length keys)
   -- every message that accounts for a held-back alarm is less than 70 seconds old
   pub fresh : (l p : ℕ) (held : AccountsForHeldBack (pastOf row cs) l (clockOf (pastOf row cs)) p)
       → clockOf (pastOf row cs) < held .condition .1 .reading + 70000000

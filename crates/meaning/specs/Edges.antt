@@ -1,6 +1,7 @@
 -- The rules paper's edges a to k: after these calls, the last one says this.
 -- Assumes nothing.
 use Prim.Native.Nat.{ℕ}
+use mathlib.Core.Path.{_≡_}
 use mathlib.Core.Bool.{Bool, true, false}
 use mathlib.Core.List.{List, [], _∷_}
 use lib.ListN.{replicate}
@@ -30,6 +31,11 @@ told-all h (c ∷ cs) = told-all (after h c (says h c)) cs
 
 unfoldable pub lastSaid : Edge → Said
 lastSaid e = says (told-all start (e .calls)) (e .last)
+
+-- every edge of a list holds
+unfoldable pub Hold : List Edge → Type 0
+Hold [] = Unit {0}
+Hold (e ∷ es) = (lastSaid e ≡ e .said) × Hold es
 
 -- discriminator 17, period 1,000,000, nothing followed
 abbrev mep : ℕ → MepId
@@ -67,10 +73,12 @@ abbrev cc : ℕ → ℕ → ℕ → Call
 cc state your t = On 100 (Receive (ccOctets (packetIn state your)) t)
 
 -- edge i's CC is refused by its reader, so its octets are written out: state UP, Your 0
-abbrev ccUpYour0 : List ℕ
+abbrev ccUpYour0 : Call
 ccUpYour0 =
-    0x10 ∷ 0 ∷ 0 ∷ 0x22 ∷ 0x20 ∷ 0xc0 ∷ 3 ∷ 24 ∷ 0 ∷ 0 ∷ 0 ∷ 9 ∷ 0 ∷ 0 ∷ 0 ∷ 0
-    ∷ 0 ∷ 0x0f ∷ 0x42 ∷ 0x40 ∷ 0 ∷ 0x0f ∷ 0x42 ∷ 0x40 ∷ 0 ∷ 0 ∷ 0 ∷ 0 ∷ []
+    On 100
+    (Receive
+    (0x10 ∷ 0 ∷ 0 ∷ 0x22 ∷ 0x20 ∷ 0xc0 ∷ 3 ∷ 24 ∷ 0 ∷ 0 ∷ 0 ∷ 9 ∷ 0 ∷ 0 ∷ 0 ∷ 0
+    ∷ 0 ∷ 0x0f ∷ 0x42 ∷ 0x40 ∷ 0 ∷ 0x0f ∷ 0x42 ∷ 0x40 ∷ 0 ∷ 0 ∷ 0 ∷ 0 ∷ []) 0)
 
 abbrev cv : ℕ → ℕ → ℕ → ℕ → Call
 cv state your local t = On 100 (Receive (cvOctets (packetIn state your) (mep local)) t)
@@ -100,10 +108,12 @@ edges =
     ∷ record { calls = up []; last = reportNow; said = seven 3 0 0 0 0 }
     ∷ record { calls = up (cc 1 17 3000001 ∷ []); last = reportNow; said = seven 2 0 0 0 0 }
     ∷ record { calls = up (cc 1 17 3000000 ∷ []); last = reportNow; said = seven 1 0 0 0 0 }
-    -- i: a CC with Your 0 is refused if it says UP, heard if it says DOWN
-    ∷ record { calls = opening ∷ []; last = On 100 (Receive ccUpYour0 0); said = numberOnly opening 6 }
+    -- i: a CC with Your 0 is refused, 6, if it says UP; accepted if it says DOWN, and heard: the session goes to INIT
+    ∷ record { calls = opening ∷ []; last = ccUpYour0; said = numberOnly ccUpYour0 6 }
+    ∷ record { calls = opening ∷ []; last = cc 1 0 0; said = numberOnly (cc 1 0 0) 0 }
     ∷ record { calls = opening ∷ cc 1 0 0 ∷ []; last = reportNow; said = seven 2 0 0 0 0 }
     -- j: a CV with Your 0 and state UP is taken, and restarts the detection time
+    ∷ record { calls = opening ∷ []; last = cv 3 0 2 1; said = numberOnly (cv 3 0 2 1) 0 }
     ∷ record { calls = opening ∷ cv 3 0 2 1 ∷ Tick 3000001 ∷ []; last = reportNow; said = seven 1 0 0 0 0 }
     -- k: the CC written at 0
     ∷ record {
