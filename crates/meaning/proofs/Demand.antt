@@ -26,12 +26,14 @@ use Rattle.meaning.specs.Answers.{isOpen, actSaid, saysOf, says}
 use Rattle.meaning.specs.Worlds.{World, step, play, begin, pastOf, tableAfter, Right, Never}
 use Rattle.meaning.specs.Lives.{Made, lives, askedIn}
 use Rattle.meaning.specs.Demand.{Demand3}
+use Rattle.meaning.proofs.Positions.{opening-told}
 use Rattle.meaning.proofs.Fits.{Fits}
 use Rattle.meaning.proofs.Sim.{Fit, Sim, sim-order, sim-asked, sim-done, sim-same, same-count, fit-open, fit-record}
 use Rattle.meaning.proofs.Accounted.{shown-crossing, shown-loss, shown-held-back, shown-conditions, condition-fresh}
 use Rattle.meaning.proofs.Timer.{timer-agrees}
 use Rattle.meaning.proofs.Numbers.{says-most}
 use Rattle.meaning.proofs.Lives.{same-made, All, all-at, Told, told-start, told-next}
+use Rattle.meaning.proofs.LatestLife.{Begun, begun-start, begun-next, latest-life}
 
 -- the table in step with its history
 abbrev pub InStep : History → Table → Type 0
@@ -80,6 +82,7 @@ record Good (w : World) : Type 0 where
   right : Right (w .past)
   never : Never 26 (w .past)
   lived : Told (w .past)
+  begun : Begun (w .past)
 
 good-step : (w : World) (c : Call) → Good w → Good (step w c)
 unfolding step Right Never says
@@ -91,6 +94,7 @@ good-step w c G =
       right = (G .right, a);
       never = (G .never, λ e. omega (arith, says-most (clockOf h) (λ l. story l h) (labels h) c, ap (λ (x : Said). x .number) a));
       lived = told-next h c (answer (w .table) c) a (G .in-step .listed) (G .lived);
+      begun = begun-next h c (answer (w .table) c) a (G .in-step .listed) (G .begun);
     }
 
 good-play : (w : World) (cs : List Call) → Good w → Good (play w cs)
@@ -100,7 +104,7 @@ good-play w (c ∷ cs) G = good-play (step w c) cs (good-step w c G)
 
 good-begin : (row : List Session) → length row ≡ 64 → Good (begin row)
 unfolding begin Right Never
-good-begin row e = record { in-step = in-step-start row e; right = tt; never = tt; lived = told-start }
+good-begin row e = record { in-step = in-step-start row e; right = tt; never = tt; lived = told-start; begun = begun-start }
 
 -- a report on an open label
 report-of : (h : History) (l : ℕ) (s : Story) → story l h ≡ some s → says h (On l ReportOn) ≡ reporting (report (clockOf h) s)
@@ -164,6 +168,9 @@ demand3 row e cs =
           (a .0, a .1, ap (λ (x : Said). x .report .conditions) (told-report l (s .0) (s .1)) ∙ a .2);
       fresh = λ l p held. condition-fresh (w .past) (G .right) l (clockOf (w .past)) p (held .condition .0) (held .condition .1);
       timer = timer-agrees (w .past) (G .right);
+      opening = λ l o. let s = open-story (story l (w .past)) o in
+          let O = opening-told (w .past) l (s .0) (s .1) in (O .0, settingsOf (s .0), O .1, O .2);
+      latest-life = λ l o g t O. latest-life (w .past) l o g t (G .begun) O;
       untouched = λ other f ds l x y p q k. same-made l x y (all-at l (G .lived .all l) p) (all-at l (good-play (begin other) ds (good-begin other f) .lived .all l) q) k;
       once-each = G .in-step .once-each;
       unshared = no-shared (w .past) (w .table) (G .in-step);

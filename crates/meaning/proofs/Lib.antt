@@ -10,6 +10,7 @@ pub mod Fits
 pub mod Sim
 pub mod Numbers
 pub mod Lives
+pub mod LatestLife
 pub mod Timer
 pub mod Accounted
 pub mod Demand

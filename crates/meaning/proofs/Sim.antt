@@ -361,7 +361,7 @@ fit-receive m u h (some r) (some s) e a =
     let b = orElse-passed (messageRefusal m) (receivedAnswer r u x) a in
     fits-got (messageOf m) u h e x (ap (λ (g : Settings). receivedAs g (messageOf m)) (sym (e .settings))) (read-good m (b .0)) (b .1)
 
-more-open : (g : Story → Story) (o : Option Story) → isOpen (more g o) ≡ isOpen o
+pub more-open : (g : Story → Story) (o : Option Story) → isOpen (more g o) ≡ isOpen o
 more-open g none = refl
 more-open g (some s) = refl
 

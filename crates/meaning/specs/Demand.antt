@@ -5,9 +5,10 @@ use mathlib.Core.Path.{_≡_}
 use mathlib.Core.Bool.{true}
 use mathlib.Core.Logic.{_↔_}
 use mathlib.Core.Option.{some}
-use mathlib.Core.List.{List, List·Memᴰ}
+use mathlib.Core.List.{List, _∷_, List·Memᴰ}
 use lib.ListN.{length}
 use lib.Dec.{eqb}
+use Rattle.rules.specs.declared.Settings.{Settings}
 use Rattle.rules.specs.declared.Key.{Key}
 use Rattle.rules.specs.declared.Report.{Report}
 use Rattle.rules.specs.Lists.{once}
@@ -19,10 +20,10 @@ use Rattle.meaning.specs.Stories.{Story, settingsOf}
 use Rattle.meaning.specs.Standing.{report}
 use Rattle.meaning.specs.Histories.{clockOf, story, labels}
 use Rattle.meaning.specs.Answers.{isOpen}
-use Rattle.meaning.specs.Accounts.{AccountsForCrossing, AccountsForLoss, AccountedKeys, AccountsForHeldBack}
+use Rattle.meaning.specs.Accounts.{Opening, AccountsForCrossing, AccountsForLoss, AccountedKeys, AccountsForHeldBack}
 use Rattle.meaning.specs.Timer.{eagerState, shown}
 use Rattle.meaning.specs.Worlds.{pastOf, tableAfter, Right, Never}
-use Rattle.meaning.specs.Lives.{Made, lives, askedIn}
+use Rattle.meaning.specs.Lives.{Made, lives, callsFrom, askedIn}
 
 -- the report that the table gives on a label
 abbrev pub reportOn : Table → ℕ → Report
@@ -52,6 +53,10 @@ pub record Demand3 (row : List Session) (cs : List Call) : Type 0 where
       → clockOf (pastOf row cs) < held .condition .1 .reading + 70000000
   -- the states are those that TIMER leaves when it is given to every session at every accepted reading
   pub timer : (l : ℕ) → eagerState l (pastOf row cs) ≡ shown (clockOf (pastOf row cs)) (story l (pastOf row cs))
+  -- an open label has its opening, and its latest life is its calls from there on, with the clock before each and what it said
+  pub opening : (l : ℕ) → isOpen (story l (pastOf row cs)) ≡ true → (o : ℕ) × (g : Settings) × (t : ℕ) × Opening (pastOf row cs) l o g t
+  pub latest-life : (l o : ℕ) (g : Settings) (t : ℕ) → Opening (pastOf row cs) l o g t
+      → (earlier : List (List Made)) × (lives l (pastOf row cs) ≡ callsFrom l o (pastOf row cs) ∷ earlier)
   -- whatever the calls on other labels: two lives in which the same is asked, with the same clock before each call, are told the same
   pub untouched : (other : List Session) → length other ≡ 64 → (ds : List Call) (l : ℕ) (x y : List Made)
       → List·Memᴰ x (lives l (pastOf row cs)) → List·Memᴰ y (lives l (pastOf other ds)) → askedIn x ≡ askedIn y → x ≡ y

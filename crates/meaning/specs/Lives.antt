@@ -1,12 +1,13 @@
 -- The lives of a label: its calls from an accepted opening to its accepted close or the end.
 -- Assumes nothing.
 use Prim.Native.Nat.{ℕ}
-use mathlib.Core.Bool.{Bool, false, cond}
+use mathlib.Core.Bool.{Bool, false, cond, _&&_}
 use mathlib.Core.List.{List, [], _∷_}
-use lib.Dec.{eqb}
+use lib.Dec.{eqb, leb}
 use Rattle.rules.specs.Calls.{Call, Tick, Open, On, Said}
 use Rattle.meaning.specs.Histories.{History, start, after, clockOf, story}
 use Rattle.meaning.specs.Answers.{isOpen}
+use Rattle.meaning.specs.Accounts.{size}
 
 -- a label's own calls: those that name it. A tick is no label's call
 abbrev pub isOn : ℕ → Call → Bool
@@ -33,6 +34,12 @@ lives l (after h c a) =
     (cond (isOpen (story l h)) (goesOn (record { before = clockOf h; call = c; said = a }) (lives l h))
     (cond (isOpen (story l (after h c a))) ((record { before = clockOf h; call = c; said = a } ∷ []) ∷ lives l h) (lives l h)))
     (lives l h)
+
+-- the label's calls from position o on, refused or not, the latest first
+unfoldable pub callsFrom : ℕ → ℕ → History → List Made
+callsFrom l o start = []
+callsFrom l o (after h c a) =
+    cond (isOn l c && leb o (size h)) (record { before = clockOf h; call = c; said = a } ∷ callsFrom l o h) (callsFrom l o h)
 
 -- what was asked: the same without what was said
 pub record Asked : Type 0 where
