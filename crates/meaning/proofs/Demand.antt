@@ -44,12 +44,12 @@ pub answered : (h : History) (t : Table) → InStep h t → (c : Call) → answe
 unfolding answer says
 answered h t S c = ap (λ (b : Bool). cond b (asked t c) (numberOnly c 26)) (sim-order S) ∙ sim-asked S c
 
-was-asked : (h : History) (t : Table) → InStep h t → (c : Call) → answer t c ≡ asked t c
+pub was-asked : (h : History) (t : Table) → InStep h t → (c : Call) → answer t c ≡ asked t c
 unfolding answer
 was-asked h t S c = ap (λ (b : Bool). cond b (asked t c) (numberOnly c 26)) (sim-order S)
 
 -- one call more
-in-step-next : (h : History) (t : Table) → InStep h t → (c : Call) → InStep (after h c (answer t c)) (next t c)
+pub in-step-next : (h : History) (t : Table) → InStep h t → (c : Call) → InStep (after h c (answer t c)) (next t c)
 unfolding next clockOf story labels
 in-step-next h t S c =
     split (isAccepted (answer t c))
@@ -77,12 +77,13 @@ in-step-start row e =
       once-each = refl;
     }
 
-record Good (w : World) : Type 0 where
-  in-step : InStep (w .past) (w .table)
-  right : Right (w .past)
-  never : Never 26 (w .past)
-  lived : Told (w .past)
-  begun : Begun (w .past)
+-- what holds of a table and its history after every list of calls
+pub record Good (w : World) : Type 0 where
+  pub in-step : InStep (w .past) (w .table)
+  pub right : Right (w .past)
+  pub never : Never 26 (w .past)
+  pub lived : Told (w .past)
+  pub begun : Begun (w .past)
 
 good-step : (w : World) (c : Call) → Good w → Good (step w c)
 unfolding step Right Never says
@@ -97,12 +98,12 @@ good-step w c G =
       begun = begun-next h c (answer (w .table) c) a (G .in-step .listed) (G .begun);
     }
 
-good-play : (w : World) (cs : List Call) → Good w → Good (play w cs)
+pub good-play : (w : World) (cs : List Call) → Good w → Good (play w cs)
 unfolding play
 good-play w [] G = G
 good-play w (c ∷ cs) G = good-play (step w c) cs (good-step w c G)
 
-good-begin : (row : List Session) → length row ≡ 64 → Good (begin row)
+pub good-begin : (row : List Session) → length row ≡ 64 → Good (begin row)
 unfolding begin Right Never
 good-begin row e = record { in-step = in-step-start row e; right = tt; never = tt; lived = told-start; begun = begun-start }
 

@@ -12,6 +12,8 @@ pub mod Numbers
 pub mod Lives
 pub mod LatestLife
 pub mod Timer
+pub mod Indistinct
 pub mod Accounted
 pub mod Demand
+pub mod Further
 pub mod Readings

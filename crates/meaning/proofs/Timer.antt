@@ -50,7 +50,7 @@ loss-after s now later h e =
     both-true (a .0) (past-later (timedFrom s) span now later h (a .1))
 
 -- the clock goes on
-state-later : (s : Story) (now later : ℕ) → now ≤ later → timed later s (stateAt now s) ≡ stateAt later s
+pub state-later : (s : Story) (now later : ℕ) → now ≤ later → timed later s (stateAt now s) ≡ stateAt later s
 unfolding stateAt
 state-later s now later h =
     split (loss now s) (λ a. rw (a, loss-after s now later h a) (timer-twice (state s))) (λ a. rw a)

@@ -8,3 +8,4 @@ pub mod Edges
 pub mod Worlds
 pub mod Lives
 pub mod Demand
+pub mod Further
