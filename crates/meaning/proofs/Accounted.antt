@@ -1,33 +1,31 @@
 -- What a report shows is what accepted calls account for.
 -- Assumes nothing.
-use Prim.Native.Nat.{ℕ, suc, _+_, _*_, _≤_, _<_}
+use Prim.Native.Nat.{ℕ, _+_, _<_}
 use native.Mathlib.Omega.{arith}
 use mathlib.Core.Path.{_≡_, refl, sym, ap, _∙_}
-use mathlib.Core.Bool.{Bool, true, false, cond, not, _&&_, _||_}
+use mathlib.Core.Bool.{Bool, true, false, _&&_}
 use mathlib.Core.Option.{Option, none, some}
 use mathlib.Core.Logic.{_↔_, inl, inr}
 use mathlib.Core.List.{List, [], _∷_}
 use lib.ListN.{length}
-use lib.Dec.{eqb}
-use borrow.Author.Tests.{eqb-true, eqb-false, eq-eqb, ne-eqb}
-use Rattle.octets.specs.Choice.{bitOf, need, bar, orElse}
+use borrow.Author.Tests.{eqb-true, eq-eqb, ne-eqb}
+use Rattle.octets.specs.Choice.{bitOf}
 use Rattle.octets.proofs.Chain.{and-both, bar-passed, orElse-passed}
-use Rattle.fault.specs.declared.Fault.{Fault}
 use Rattle.message.specs.Message.{messageRefusal, messageOf}
 use Rattle.rules.specs.declared.Key.{Key}
 use Rattle.rules.specs.Times.{late}
 use Rattle.rules.specs.Conditions.{sameKey}
-use Rattle.rules.specs.Diagnostics.{lossAlarm, reportOf}
-use Rattle.rules.specs.Lists.{any, only, once}
-use Rattle.rules.specs.Calls.{Receive, Call, On, Said, isAccepted}
-use Rattle.rules.proofs.Bools.{split, no-way, both-true, refuted, true-false, same-test}
-use Rattle.rules.proofs.Lists.{any-who, any-at, none-only, same-length, any-only, once-only}
-use Rattle.rules.proofs.SameKeys.{keys-alike, same-refl}
+use Rattle.rules.specs.Diagnostics.{lossAlarm}
+use Rattle.rules.specs.Lists.{any, only}
+use Rattle.rules.specs.Calls.{Receive, On, isAccepted}
+use Rattle.rules.proofs.Bools.{split, both-true, true-false, same-test}
+use Rattle.rules.proofs.Lists.{any-who, none-only, same-length, any-only, once-only}
+use Rattle.rules.proofs.SameKeys.{keys-alike}
 use Rattle.meaning.specs.Stories.{Story}
 use Rattle.meaning.specs.Standing.{crossing, loss, stands, keysOf, conditions, report}
-use Rattle.meaning.specs.Histories.{History, start, after, clockOf, story, labels}
-use Rattle.meaning.specs.Answers.{receivedNumber, receiveNumber, actSaid, saysOf, says}
-use Rattle.meaning.specs.Accounts.{Took, ReceivedSince, AccountsForCrossing, AccountsForLoss, AccountsForCondition, AccountedKeys, AccountsForHeldBack}
+use Rattle.meaning.specs.Histories.{History, start, after, clockOf, story}
+use Rattle.meaning.specs.Answers.{receiveNumber, actSaid, saysOf, says}
+use Rattle.meaning.specs.Accounts.{Took, AccountsForCrossing, AccountsForLoss, AccountsForCondition, AccountedKeys, AccountsForHeldBack}
 use Rattle.meaning.proofs.Crossings.{crossing-accounted}
 use Rattle.meaning.proofs.Conditions.{condition-accounted}
 use Rattle.meaning.proofs.Losses.{loss-accounted}

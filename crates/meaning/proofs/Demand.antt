@@ -1,14 +1,13 @@
 -- Demand 3, proved.
 -- Assumes nothing.
-use Prim.Native.Nat.{ℕ, _≤_}
+use Prim.Native.Nat.{ℕ}
 use native.Mathlib.Omega.{arith}
 use mathlib.Core.Path.{_≡_, refl, sym, ap, _∙_, subst}
-use mathlib.Core.Bool.{Bool, true, false, cond, not, _&&_}
+use mathlib.Core.Bool.{Bool, true, cond, not}
 use mathlib.Core.Option.{Option, none, some}
 use mathlib.Core.List.{List, [], _∷_, List·Memᴰ, List·Memᴰ·head, List·Memᴰ·tail}
 use lib.ListN.{length}
-use lib.Dec.{eqb}
-use borrow.Author.Tests.{eqb-true, eq-eqb, not-true}
+use borrow.Author.Tests.{eq-eqb, not-true}
 use Rattle.octets.proofs.Chain.{and-both}
 use Rattle.rules.specs.declared.Settings.{Settings}
 use Rattle.rules.specs.Lists.{any, once}
@@ -16,23 +15,21 @@ use Rattle.rules.specs.Calls.{Call, On, ReportOn, Said, isAccepted, numberOnly,
 use Rattle.rules.proofs.Bools.{split, no-way}
 use Rattle.rules.proofs.Lists.{any-at, numbers-alike}
 use Rattle.session.specs.declared.Session.{Session}
-use Rattle.table.specs.Places.{occupiedOf, opens}
-use Rattle.table.specs.Table.{Table, openOf, sameLabel, sameDiscriminator, inOrder, find, asked, answer, done, next, emptied}
-use Rattle.table.proofs.Rows.{found-is, count-opens}
+use Rattle.table.specs.Places.{opens}
+use Rattle.table.specs.Table.{Table, openOf, sameLabel, sameDiscriminator, find, asked, answer, next, emptied}
+use Rattle.table.proofs.Rows.{found-is}
 use Rattle.meaning.specs.Stories.{Story, settingsOf}
 use Rattle.meaning.specs.Standing.{report}
-use Rattle.meaning.specs.Histories.{History, start, after, reading, told, labelsAfter, clockOf, story, labels}
+use Rattle.meaning.specs.Histories.{History, start, after, clockOf, story, labels}
 use Rattle.meaning.specs.Answers.{isOpen, actSaid, saysOf, says}
 use Rattle.meaning.specs.Worlds.{World, step, play, begin, pastOf, tableAfter, Right, Never}
-use Rattle.meaning.specs.Lives.{Made, lives, askedIn}
 use Rattle.meaning.specs.Demand.{Demand3}
 use Rattle.meaning.proofs.Positions.{opening-told}
-use Rattle.meaning.proofs.Fits.{Fits}
 use Rattle.meaning.proofs.Sim.{Fit, Sim, sim-order, sim-asked, sim-done, sim-same, same-count, fit-open, fit-record}
 use Rattle.meaning.proofs.Accounted.{shown-crossing, shown-loss, shown-held-back, shown-conditions, condition-fresh}
 use Rattle.meaning.proofs.Timer.{timer-agrees}
 use Rattle.meaning.proofs.Numbers.{says-most}
-use Rattle.meaning.proofs.Lives.{same-made, All, all-at, Told, told-start, told-next}
+use Rattle.meaning.proofs.Lives.{same-made, all-at, Told, told-start, told-next}
 use Rattle.meaning.proofs.LatestLife.{Begun, begun-start, begun-next, latest-life}
 
 -- the table in step with its history

@@ -35,7 +35,6 @@ use Rattle.meaning.specs.Standing.{locked, crossing, timedFrom, multipli
 use Rattle.meaning.specs.Histories.{actReading, reading, more, actTold, told}
 use Rattle.meaning.specs.Answers.{isOpen, hasDiscriminator, rival, full, openNumber, receivedNumber, receiveNumber, reportSaid, writeSaid, actSaid, saysOf}
 use Rattle.meaning.proofs.Fits.{state-locked}
-use Rattle.meaning.proofs.Sim.{not-late}
 use Rattle.meaning.proofs.Timer.{state-later}
 
 -- two stories that differ in nothing but what TIMER did to the state before the clock `from`

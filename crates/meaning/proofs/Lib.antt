@@ -15,5 +15,7 @@ pub mod Timer
 pub mod Indistinct
 pub mod Accounted
 pub mod Demand
+pub mod OnlyTicks
+pub mod TakenPlaces
 pub mod Further
 pub mod Readings

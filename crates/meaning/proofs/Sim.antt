@@ -393,7 +393,7 @@ both-same true = refl
 both-same false = refl
 
 -- a found record, from the answer that asks for one
-found-some : (o : Option Session) → isFound o ≡ true → (r : Session) × (o ≡ some r)
+pub found-some : (o : Option Session) → isFound o ≡ true → (r : Session) × (o ≡ some r)
 found-some none e = no-way e refl
 found-some (some r) e = (r, refl)
 

@@ -16,7 +16,7 @@ use Rattle.rules.specs.declared.Received.the-variants.{CrossedMessage, HeardCc,
 use Rattle.rules.specs.Received.{receivedAs}
 use Rattle.rules.specs.Conditions.{keyOf, sameKey}
 use Rattle.rules.specs.Lists.{any, once}
-use Rattle.rules.specs.Calls.{Close, Lock, Unlock, Receive, Call, Open, On, Said, isAccepted}
+use Rattle.rules.specs.Calls.{Close, Lock, Unlock, Receive, Call, Open, On, isAccepted}
 use Rattle.meaning.specs.Histories.{History, start, after}
 
 -- how many calls a history has: the position of the next

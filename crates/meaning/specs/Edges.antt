@@ -2,19 +2,17 @@
 -- Assumes nothing.
 use Prim.Native.Nat.{ℕ}
 use mathlib.Core.Path.{_≡_}
-use mathlib.Core.Bool.{Bool, true, false}
+use mathlib.Core.Bool.{false}
 use mathlib.Core.List.{List, [], _∷_}
 use lib.ListN.{replicate}
 use Rattle.bfd.specs.declared.Packet.{Packet}
 use Rattle.bfd.specs.Octets.{ccOctets}
 use Rattle.cv.specs.declared.MepId.{MepId}
 use Rattle.cv.specs.Cv.{cvOctets}
-use Rattle.fault.specs.declared.Fault.{Fault}
 use Rattle.fault.specs.declared.IfId.the-variants.{Absent as NoIfId}
 use Rattle.fault.specs.declared.GlobalId.the-variants.{Absent as NoGlobalId}
 use Rattle.fault.specs.Octets.{faultOctets}
 use Rattle.rules.specs.declared.Settings.{Settings}
-use Rattle.rules.specs.declared.Report.{Report}
 use Rattle.rules.specs.Calls.{Receive, ReportOn, WriteCc, Call, Tick, Open, On, Said, numberOnly, noReport, reporting}
 use Rattle.meaning.specs.Histories.{History, start, after}
 use Rattle.meaning.specs.Answers.{says}

@@ -8,7 +8,7 @@ use mathlib.Core.List.{List, [], _∷_}
 use lib.ListN.{getD}
 use Rattle.rules.specs.declared.Settings.{Settings}
 use Rattle.rules.specs.Times.{late}
-use Rattle.rules.specs.Calls.{Lock, Unlock, Call, Tick, Open, On, Said, numberOnly}
+use Rattle.rules.specs.Calls.{Close, Lock, Unlock, ReportOn, Call, Tick, Open, On, Said, numberOnly}
 use Rattle.session.specs.declared.Session.{Session}
 use Rattle.table.specs.Places.{occupiedAt}
 use Rattle.table.specs.Table.{Table, answer, next}
@@ -37,6 +37,15 @@ pub record TakesLowest (t u : Table) (g : Settings) (p : ℕ) : Type 0 where
   pub other-marks : (i : ℕ) → (i ≡ p → ⊥) → occupiedAt (u .occupied) i ≡ occupiedAt (t .occupied) i
   pub other-records : (i : ℕ) → (i ≡ p → ⊥) → (r : Session) → getD (u .row) i r ≡ getD (t .row) i r
 
+-- place p held the session of the label; afterwards it is free, and no other mark and no record is altered
+pub record GivesBack (t u : Table) (l p : ℕ) : Type 0 where
+  pub within-row : p < 64
+  pub was-taken : occupiedAt (t .occupied) p ≡ true
+  pub session : (r : Session) → getD (t .row) p r .settings .label ≡ l
+  pub freed : occupiedAt (u .occupied) p ≡ false
+  pub other-marks : (i : ℕ) → (i ≡ p → ⊥) → occupiedAt (u .occupied) i ≡ occupiedAt (t .occupied) i
+  pub records : u .row ≡ t .row
+
 pub record Further (row : List Session) (cs : List Call) : Type 0 where
   -- "Locking twice, or unlocking what isn't locked, is accepted and, TIMER apart, alters only the clock" (a tick gives TIMER too)
   pub locked-twice : (l u : ℕ) (s : Story) → story l (pastOf row cs) ≡ some s → locked s ≡ true → late (clockOf (pastOf row cs)) u ≡ false
@@ -45,6 +54,10 @@ pub record Further (row : List Session) (cs : List Call) : Type 0 where
       → OnlyTicks (tableAfter row cs) (On l (Unlock u)) u
   -- "A session holds at most 4 fault conditions", at the clock and at every later one
   pub four-conditions : (l now : ℕ) (s : Story) → story l (pastOf row cs) ≡ some s → clockOf (pastOf row cs) ≤ now → conditions now s ≤ 4
-  -- "A new session takes the lowest free place"
+  -- "A new session takes the lowest free place, and a closed session's place serves again"
   pub lowest-place : (g : Settings) (u : ℕ) → answer (tableAfter row cs) (Open g u) .number ≡ 0
       → (p : ℕ) × TakesLowest (tableAfter row cs) (next (tableAfter row cs) (Open g u)) g p
+  pub place-again : (l u : ℕ) → answer (tableAfter row cs) (On l (Close u)) .number ≡ 0
+      → (p : ℕ) × GivesBack (tableAfter row cs) (next (tableAfter row cs) (On l (Close u))) l p
+  -- "report changes nothing"
+  pub report-alters-nothing : (l : ℕ) → next (tableAfter row cs) (On l ReportOn) ≡ tableAfter row cs
