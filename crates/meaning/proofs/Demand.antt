@@ -23,6 +23,8 @@ use Rattle.meaning.specs.Standing.{report}
 use Rattle.meaning.specs.Histories.{History, start, after, clockOf, story, labels}
 use Rattle.meaning.specs.Answers.{isOpen, actSaid, saysOf, says}
 use Rattle.meaning.specs.Worlds.{World, step, play, begin, pastOf, tableAfter, Right, Never}
+use Rattle.meaning.specs.Accounts.{Opening}
+use Rattle.meaning.specs.Lives.{callsFrom, askedIn}
 use Rattle.meaning.specs.Demand.{Demand3}
 use Rattle.meaning.proofs.Positions.{opening-told}
 use Rattle.meaning.proofs.Sim.{Fit, Sim, sim-order, sim-asked, sim-done, sim-same, same-count, fit-open, fit-record}
@@ -186,3 +188,14 @@ demand3 row e cs =
 
     told-report : (l : ℕ) (s : Story) → story l (w .past) ≡ some s → answer (w .table) (On l ReportOn) ≡ reporting (report (clockOf (w .past)) s)
     told-report l s o = answered (w .past) (w .table) (G .in-step) (On l ReportOn) ∙ report-of (w .past) l s o
+
+-- by positions alone: where a label is open after two lists, and was asked the same from its opening on with the same clock before each
+-- call, it was told the same
+pub same-since-opening : (row other : List Session) → length row ≡ 64 → length other ≡ 64 → (cs ds : List Call) (l o p : ℕ) (g k : Settings) (t u : ℕ)
+    → Opening (pastOf row cs) l o g t → Opening (pastOf other ds) l p k u
+    → askedIn (callsFrom l o (pastOf row cs)) ≡ askedIn (callsFrom l p (pastOf other ds)) → callsFrom l o (pastOf row cs) ≡ callsFrom l p (pastOf other ds)
+same-since-opening row other e f cs ds l o p g k t u O Q same =
+    let D = demand3 row e cs in
+    let x = D .latest-life l o g t O in
+    let y = demand3 other f ds .latest-life l p k u Q in
+    D .untouched other f ds l _ _ (rw (x .1) (List·Memᴰ·head refl)) (rw (y .1) (List·Memᴰ·head refl)) same
