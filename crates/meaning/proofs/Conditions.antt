@@ -94,7 +94,7 @@ module _ (h : History) (d : Call) (a : Said) (l : ℕ) (key : Key) (now : ℕ) (
             own = same;
             latest = λ q u g b H k. none-beyond h d a q _ b (H .message .1);
             present = not-true _ (c .0);
-            fresh = ltb-true now (t + 3500000 * x .refresh) (c .1);
+            fresh = omega (arith, ltb-true now (t + 3500000 * x .refresh) (c .1));
           },
         )
 
@@ -107,7 +107,7 @@ module _ (h : History) (d : Call) (a : Said) (l : ℕ) (key : Key) (now : ℕ) (
         (λ z.
         let i : FaultMessage x ≡ FaultMessage (A .fault) = sym is ∙ sym (known O) ∙ z .2 in
         let j : A .fault ≡ x = cc in
-        let b : now < t + 3500000 * x .refresh = subst (λ (g : Fault). now < t + 3500000 * g .refresh) j (subst (λ (u : ℕ). now < u + 3500000 * A .fault .refresh) (z .1) (A .fresh)) in
+        let b : now < t + 3500000 * x .refresh = omega (arith, z .1, ap (λ (g : Fault). g .refresh) j, A .fresh) in
         both-true (ap not (ap (λ (g : Fault). g .removed) (sym j) ∙ A .present)) (lt-ltb now _ b))
         (λ H. absurd
         (A .latest (size h) t x (took-below h p _ (H .message .1))
