@@ -79,7 +79,7 @@ told-open l true (On m x) p e k =
 record Latest (h : History) (l o : ℕ) : Type 0 where
   opened : isOpen (story l h) ≡ true
   earlier : List (List Made)
-  latest : lives l h ≡ callsFrom l o h ∷ earlier
+  life : lives l h ≡ callsFrom l o h ∷ earlier
 
 -- no call stands at the next position
 none-from : (l o : ℕ) (h : History) → size h ≤ o → callsFrom l o h ≡ []
@@ -108,7 +108,7 @@ module _ (h : History) (g : Settings) (t : ℕ) (a : Said) (y : isAccepted a ≡
   latest-new {c} {l} {o} e f k =
       subst (λ (p : ℕ). Latest (after h c a) l p) k
       (subst (λ (m : ℕ). Latest (after h c a) m (size h)) f
-      (subst (λ (d : Call). Latest (after h d a) (g .label) (size h)) e (record { opened = opens; earlier = lives (g .label) h; latest = begins })))
+      (subst (λ (d : Call). Latest (after h d a) (g .label) (size h)) e (record { opened = opens; earlier = lives (g .label) h; life = begins })))
 
 -- a later call
 module _ (h : History) (c : Call) (a : Said) (l o : ℕ) (b : o < size h) (L : Latest h l o) where
@@ -121,11 +121,11 @@ module _ (h : History) (c : Call) (a : Said) (l o : ℕ) (b : o < size h) (L : L
   goes-on =
       let later : leb o (size h) ≡ true = le-leb o (size h) (omega arith) in
       split (isOn l c)
-      (λ e. simp (e, L .opened, later) (ap (goesOn (record { before = clockOf h; call = c; said = a })) (L .latest)))
-      (λ e. simp e (L .latest))
+      (λ e. simp (e, L .opened, later) (ap (goesOn (record { before = clockOf h; call = c; said = a })) (L .life)))
+      (λ e. simp e (L .life))
 
   latest-on : ((u : ℕ) → c ≡ On l (Close u) → isAccepted a ≡ true → ⊥) → Latest (after h c a) l o
-  latest-on k = record { opened = still-open k; earlier = L .earlier; latest = goes-on }
+  latest-on k = record { opened = still-open k; earlier = L .earlier; life = goes-on }
 
 -- an opening before the last call
 opening-earlier : (h : History) (c : Call) (a : Said) {l o t : ℕ} {g : Settings} → Opening (after h c a) l o g t → Took h o (Open g t) → Opening h l o g t
@@ -151,4 +151,4 @@ latest-of (after h c a) l o g t B O =
 -- of every opening
 pub latest-life : (h : History) (l o : ℕ) (g : Settings) (t : ℕ) → Begun h → Opening h l o g t
     → (earlier : List (List Made)) × (lives l h ≡ callsFrom l o h ∷ earlier)
-latest-life h l o g t B O = let L = latest-of h l o g t B O in (L .earlier, L .latest)
+latest-life h l o g t B O = let L = latest-of h l o g t B O in (L .earlier, L .life)

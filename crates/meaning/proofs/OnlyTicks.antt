@@ -68,11 +68,11 @@ quiet-told h l (On m a) y q =
     (λ e. rw e (quiet-act (clockOf h) m a (story l h) (ap (λ (n : ℕ). isAccepted (actSaid (clockOf h) (story n h) m a)) (sym (eqb-true m l e)) ∙ y) q))
     (λ e. rw e q)
 
-quiet : (h : History) (l : ℕ) → Right h → Quiet (story l h)
+quiet-story : (h : History) (l : ℕ) → Right h → Quiet (story l h)
 unfolding story Right
-quiet start l r = tt
-quiet (after h c a) l r =
-    split (isAccepted a) (λ e. rw e (quiet-told h l c (ap isAccepted (sym (r .1)) ∙ e) (quiet h l (r .0)))) (λ e. rw e (quiet h l (r .0)))
+quiet-story start l r = tt
+quiet-story (after h c a) l r =
+    split (isAccepted a) (λ e. rw e (quiet-told h l c (ap isAccepted (sym (r .1)) ∙ e) (quiet-story h l (r .0)))) (λ e. rw e (quiet-story h l (r .0)))
 
 -- 2. Two tables whose histories nobody can tell apart answer every list of calls alike.
 
@@ -144,7 +144,7 @@ module _ (h : History) (r : Right h) (t : Table) (S : InStep h t) (l u : ℕ) (s
   pub twice-locked : locked s ≡ true → OnlyTicks t (On l (Lock u)) u
   unfolding says saysOf actSaid
   twice-locked k =
-      let q = subst Quiet o (quiet h l r) k in
+      let q = subst Quiet o (quiet-story h l r) k in
       only-ticks h l u (Lock u) refl refl (rw o (alike-locked u s k (q .0) (q .1))) t S in-time′ (rw (in-time′, o))
 
   pub unlocked-again : locked s ≡ false → OnlyTicks t (On l (Unlock u)) u
