@@ -74,7 +74,24 @@ module _ (h : History) (d : Call) (a : Said) (l : ℕ) (key : Key) (now : ℕ) (
 
   -- a fault message of the key accounts itself, if R is clear and it is fresh; and no earlier one does
   module _ (x : Fault) (is : receivedAs (settingsOf r) (messageOf m) ≡ FaultMessage x) (same : sameKey (keyOf x) key ≡ true) where
-    -- it accounts
+    -- it alone shows that the condition stands
+    own-shows : (p : ℕ) → AccountsForCondition (after h d a) l key now p → lasts now t x ≡ true
+    unfolding within
+    own-shows p A =
+        let O = opening-before h d a e y (A .opening) in
+        ⊎-elim
+        (λ z.
+        let i : FaultMessage x ≡ FaultMessage (A .fault) = sym is ∙ sym (known O) ∙ z .2 in
+        let j : A .fault ≡ x = cc in
+        let b : now < t + 3500000 * x .refresh = omega (arith, z .1, ap (λ (g : Fault). g .refresh) j, A .fresh) in
+        both-true (ap not (ap (λ (g : Fault). g .removed) (sym j) ∙ A .present)) (lt-ltb now _ b))
+        (λ H. absurd
+        (A .latest (size h) t x (took-below h p _ (H .message .1))
+        (subst (λ (z : Received). ReceivedSince (after h d a) l (A .o) (A .settings) (size h) t z) (known O ∙ is)
+        (heard-new h d a e y (took-below h _ _ (O .took)))) same))
+        (heard-cases h d a e y (A .message))
+
+    -- and it accounts
     own-accounts : lasts now t x ≡ true → (p : ℕ) × AccountsForCondition (after h d a) l key now p
     unfolding within
     own-accounts z =
@@ -97,23 +114,6 @@ module _ (h : History) (d : Call) (a : Said) (l : ℕ) (key : Key) (now : ℕ) (
             fresh = omega (arith, ltb-true now (t + 3500000 * x .refresh) (c .1));
           },
         )
-
-    -- it alone
-    own-shows : (p : ℕ) → AccountsForCondition (after h d a) l key now p → lasts now t x ≡ true
-    unfolding within
-    own-shows p A =
-        let O = opening-before h d a e y (A .opening) in
-        ⊎-elim
-        (λ z.
-        let i : FaultMessage x ≡ FaultMessage (A .fault) = sym is ∙ sym (known O) ∙ z .2 in
-        let j : A .fault ≡ x = cc in
-        let b : now < t + 3500000 * x .refresh = omega (arith, z .1, ap (λ (g : Fault). g .refresh) j, A .fresh) in
-        both-true (ap not (ap (λ (g : Fault). g .removed) (sym j) ∙ A .present)) (lt-ltb now _ b))
-        (λ H. absurd
-        (A .latest (size h) t x (took-below h p _ (H .message .1))
-        (subst (λ (z : Received). ReceivedSince (after h d a) l (A .o) (A .settings) (size h) t z) (known O ∙ is)
-        (heard-new h d a e y (took-below h _ _ (O .took)))) same))
-        (heard-cases h d a e y (A .message))
 
   -- any other message leaves the account as it is
   module _ (not-own : (g : Fault) → receivedAs (settingsOf r) (messageOf m) ≡ FaultMessage g → sameKey (keyOf g) key ≡ true → ⊥) where

@@ -89,6 +89,23 @@ none-from l o (after h c a) b =
     let n : leb o (size h) ≡ false = lt-leb o (size h) (omega arith) in
     split (isOn l c) (λ e. simp (e, n) (none-from l o h (omega arith))) (λ e. simp e (none-from l o h (omega arith)))
 
+-- a later call
+module _ (h : History) (c : Call) (a : Said) (l o : ℕ) (b : o < size h) (L : Latest h l o) where
+  still-open : ((u : ℕ) → c ≡ On l (Close u) → isAccepted a ≡ true → ⊥) → isOpen (story l (after h c a)) ≡ true
+  unfolding story
+  still-open k = told-open l (isAccepted a) c (story l h) (L .opened) k
+
+  goes-on : lives l (after h c a) ≡ callsFrom l o (after h c a) ∷ L .earlier
+  unfolding lives callsFrom goesOn
+  goes-on =
+      let later : leb o (size h) ≡ true = le-leb o (size h) (omega arith) in
+      split (isOn l c)
+      (λ e. simp (e, L .opened, later) (ap (goesOn (record { before = clockOf h; call = c; said = a })) (L .life)))
+      (λ e. simp e (L .life))
+
+  latest-on : ((u : ℕ) → c ≡ On l (Close u) → isAccepted a ≡ true → ⊥) → Latest (after h c a) l o
+  latest-on k = record { opened = still-open k; earlier = L .earlier; life = goes-on }
+
 -- the open itself
 module _ (h : History) (g : Settings) (t : ℕ) (a : Said) (y : isAccepted a ≡ true) (shut : isOpen (story (g .label) h) ≡ false) where
   own : eqb (g .label) (g .label) ≡ true
@@ -109,23 +126,6 @@ module _ (h : History) (g : Settings) (t : ℕ) (a : Said) (y : isAccepted a ≡
       subst (λ (p : ℕ). Latest (after h c a) l p) k
       (subst (λ (m : ℕ). Latest (after h c a) m (size h)) f
       (subst (λ (d : Call). Latest (after h d a) (g .label) (size h)) e (record { opened = opens; earlier = lives (g .label) h; life = begins })))
-
--- a later call
-module _ (h : History) (c : Call) (a : Said) (l o : ℕ) (b : o < size h) (L : Latest h l o) where
-  still-open : ((u : ℕ) → c ≡ On l (Close u) → isAccepted a ≡ true → ⊥) → isOpen (story l (after h c a)) ≡ true
-  unfolding story
-  still-open k = told-open l (isAccepted a) c (story l h) (L .opened) k
-
-  goes-on : lives l (after h c a) ≡ callsFrom l o (after h c a) ∷ L .earlier
-  unfolding lives callsFrom goesOn
-  goes-on =
-      let later : leb o (size h) ≡ true = le-leb o (size h) (omega arith) in
-      split (isOn l c)
-      (λ e. simp (e, L .opened, later) (ap (goesOn (record { before = clockOf h; call = c; said = a })) (L .life)))
-      (λ e. simp e (L .life))
-
-  latest-on : ((u : ℕ) → c ≡ On l (Close u) → isAccepted a ≡ true → ⊥) → Latest (after h c a) l o
-  latest-on k = record { opened = still-open k; earlier = L .earlier; life = goes-on }
 
 -- an opening before the last call
 opening-earlier : (h : History) (c : Call) (a : Said) {l o t : ℕ} {g : Settings} → Opening (after h c a) l o g t → Took h o (Open g t) → Opening h l o g t
