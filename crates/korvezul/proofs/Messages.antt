@@ -3,11 +3,11 @@
 use mathlib.Core.Path.{_≡_, refl, ap, _∙_}
 use mathlib.Core.Bool.{true}
 use mathlib.Core.List.{List, _++_}
-use Prim.Native.Nat.{ℕ}
+use Prim.Native.Nat.{ℕ, zero, suc, _<_}
 use native.Mathlib.Omega.{arith}
 use lib.Dec.{leb, eqb}
 use lib.ListN.{take, drop}
-use borrow.Author.Tests.{eq-eqb, leb-true}
+use borrow.Author.Tests.{eq-eqb, eqb-true, leb-true}
 use Rattle.octets.specs.Choice.{bitOf}
 use Rattle.octets.proofs.Chain.{bit-back, bit-again, need-passed, orElse-passed}
 use Rattle.bfd.specs.declared.Packet.{Packet}
@@ -24,12 +24,18 @@ use Rattle.fault.specs.declared.IfId.{IfId}
 use Rattle.fault.specs.declared.IfId.the-variants.{Absent as NoIfId, Present as AnIfId}
 use Rattle.fault.specs.declared.GlobalId.{GlobalId}
 use Rattle.fault.specs.declared.GlobalId.the-variants.{Absent as NoGlobalId, Present as AGlobalId}
+use Rattle.fault.specs.Message.{readFault}
+use Rattle.fault.specs.Octets.{faultOctets, fieldRefusal}
+use Rattle.fault.specs.Plain.{Sized as FaultSized}
+use Rattle.fault.proofs.RoundTrip as fault
 use Rattle.rules.specs.Conditions.{keyWith}
 use Rattle.korvezul.specs.declared.fields.PacketFields.{PacketFields}
+use Rattle.korvezul.specs.declared.fields.FaultFields.{FaultFields}
 use Rattle.korvezul.specs.declared.readers.CcRead.{CcRead}
 use Rattle.korvezul.specs.declared.readers.CvRead.{CvRead}
-use Rattle.korvezul.specs.Fields.{packetFields, packetFrom, packetMarks, faultFields, faultFrom, globalFields, ifIdFrom, globalIdFrom}
-use Rattle.korvezul.specs.Messages.{ccRead, cvRead, ccWriteRefusal, cvWriteRefusal}
+use Rattle.korvezul.specs.declared.readers.FaultRead.{FaultRead}
+use Rattle.korvezul.specs.Fields.{packetFields, packetFrom, packetMarks, faultFields, faultFrom, globalFields, ifIdFrom, globalIdFrom, markedRefusal, faultMarks}
+use Rattle.korvezul.specs.Messages.{ccRead, cvRead, faultRead, ccWriteRefusal, cvWriteRefusal, faultWriteRefusal}
 
 -- a packet in numbers, and back
 pub packet-back : (p : Packet) → packetFrom (packetFields p) ≡ p
@@ -75,6 +81,53 @@ global-id-back (AGlobalId n) = refl
 pub fault-back : (f : Fault) → faultFrom (faultFields f) ≡ f
 fault-back f =
     rw (bit-back (f .linkdown) (bitOf (f .linkdown)) refl, bit-back (f .removed) (bitOf (f .removed)) refl, if-id-back (f .kind) (f .interface), global-id-back (f .global))
+
+-- a mark and a number that are not refused: the mark is 0 or 1, and behind 0 the number is 0
+record Marked (mark number : ℕ) : Type 0 where
+  bit : mark < 2
+  nothing : mark ≡ 0 → number ≡ 0
+
+marked : (mark number : ℕ) → markedRefusal mark number ≡ 0 → Marked mark number
+unfolding markedRefusal
+marked zero number e = record { bit = omega arith; nothing = λ z. eqb-true number 0 (need-passed (eqb number 0) 9 0 e .0) }
+marked (suc zero) number e = record { bit = omega arith; nothing = λ z. omega arith }
+marked (suc (suc mark)) number e =
+    let h = leb-true (suc (suc mark)) 1 (need-passed (leb (suc (suc mark)) 1) 9 _ e .0) in
+    record { bit = omega arith; nothing = λ z. omega arith }
+
+-- an IF_ID and a Global_ID that are not refused, as the message has them and back
+if-id-again : (k present node interface : ℕ) → Marked present node → Marked present interface
+    → keyWith k (ifIdFrom present node interface) ≡ record { node = node; interface = interface; kind = k; present = present }
+if-id-again k zero node interface m n = rw (m .nothing refl, n .nothing refl)
+if-id-again k (suc zero) node interface m n = refl
+if-id-again k (suc (suc present)) node interface m n = absurd (omega (arith, m .bit))
+
+global-id-again : (present global : ℕ) → Marked present global → globalFields (globalIdFrom present global) ≡ record { present = present; global = global }
+global-id-again zero global m = rw (m .nothing refl)
+global-id-again (suc zero) global m = refl
+global-id-again (suc (suc present)) global m = absurd (omega (arith, m .bit))
+
+-- fields that are not refused for a mark, as a fault message and back
+pub fault-fields-back : (f : FaultFields) → faultMarks f ≡ 0 → faultFields (faultFrom f) ≡ f
+unfolding faultMarks
+fault-fields-back f e =
+    let l = need-passed (leb (f .linkdown) 1) 9 _ e in
+    let r = need-passed (leb (f .removed) 1) 9 _ (l .1) in
+    let ids = orElse-passed _ _ (r .1) in
+    let if-id = orElse-passed _ _ (ids .0) in
+    rw (
+      mark (f .linkdown) _ l,
+      mark (f .removed) _ r,
+      if-id-again (f .kind) (f .ifid) (f .node) (f .interface) (marked (f .ifid) (f .node) (if-id .0)) (marked (f .ifid) (f .interface) (if-id .1)),
+      global-id-again (f .globalid) (f .global) (marked (f .globalid) (f .global) (ids .1)),
+    )
+
+-- what a host writes, a host reads, whatever stands behind it: no field is lost
+pub fault-there-and-back : (f : FaultFields) (pad : List ℕ) → FaultSized (faultFrom f) → faultWriteRefusal f ≡ 0
+    → faultRead (readFault (faultOctets (faultFrom f) ++ pad)) ≡ record { answer = 0; fault = f }
+fault-there-and-back f pad s e =
+    let o = orElse-passed (faultMarks f) (fieldRefusal (faultFrom f)) e in
+    ap faultRead (fault.read-written (faultFrom f) pad s (o .1)) ∙ ap {B = FaultRead} (λ (g : FaultFields). record { answer = 0; fault = g }) (fault-fields-back f (o .0))
 
 -- the stretch of an accepted CV stands at the place that its reader hands out
 pub part-stands : (m : List ℕ) → cvRefusal m ≡ 0 → mepPart m ≡ take 16 (drop (cvRead (mepAt m) (readCv m) .part) m)

@@ -3,7 +3,7 @@
 use Prim.Native.Nat.{ℕ}
 use mathlib.Core.Bool.{cond}
 use lib.Dec.{eqb, leb}
-use Rattle.octets.specs.Choice.{need, bitOf}
+use Rattle.octets.specs.Choice.{need, bar, orElse, bitOf}
 use Rattle.bfd.specs.declared.Packet.{Packet}
 use Rattle.fault.specs.declared.Fault.{Fault}
 use Rattle.fault.specs.declared.IfId.{IfId}
@@ -94,10 +94,14 @@ faultFrom f =
       global = globalIdFrom (f .globalid) (f .global);
     }
 
--- refusal 10 for a mark above 1: L, R, IF_ID, Global_ID
+-- refusal 10 for a mark above 1, and for a number that is not 0 behind a mark of 0: the message would lose it
+unfoldable pub markedRefusal : ℕ → ℕ → ℕ
+markedRefusal mark number = need (leb mark 1) 10 (bar (eqb mark 1) 0 (need (eqb number 0) 10 0))
+
+-- L and R; IF_ID with Node and Interface; Global_ID with its number
 unfoldable pub faultMarks : FaultFields → ℕ
 faultMarks f =
     need (leb (f .linkdown) 1) 10
     (need (leb (f .removed) 1) 10
-    (need (leb (f .ifid) 1) 10
-    (need (leb (f .globalid) 1) 10 0)))
+    (orElse (orElse (markedRefusal (f .ifid) (f .node)) (markedRefusal (f .ifid) (f .interface)))
+    (markedRefusal (f .globalid) (f .global))))

@@ -6,8 +6,10 @@ use fault::GlobalId;
 use fault::IfId;
 use octets::bit;
 use octets::need;
+use octets::or_else;
+use octets::refuse_if;
 ghost use mathlib.Core.Path.{_≡_};
-ghost use Rattle.korvezul.specs.Fields.{packetFields, packetFrom, packetMarks, globalFields, faultFields, ifIdFrom, globalIdFrom, faultFrom, faultMarks};
+ghost use Rattle.korvezul.specs.Fields.{packetFields, packetFrom, packetMarks, globalFields, faultFields, ifIdFrom, globalIdFrom, faultFrom, markedRefusal, faultMarks};
 
 // A BFD control packet: as `bfd::Packet`, with the marks P, F, C and D as numbers.
 #[repr(C)]
@@ -26,8 +28,9 @@ pub struct PacketFields {
     pub demand: u8,
 }
 
-// A fault message: as `fault::Fault`, with a mark for each of IF_ID and Global_ID. Numbers behind a
-// mark that is 0 are 0 when read and are not looked at when written.
+// A fault message: as `fault::Fault`, with a mark for each of IF_ID and Global_ID. Behind a mark of
+// 0 there is nothing: the numbers are 0 when read, and others are refused when written (10), since
+// the message would lose them.
 #[repr(C)]
 pub struct FaultFields {
     pub node: u32,
@@ -158,10 +161,25 @@ pub fn fault_from(f: FaultFields) -> Fault
     }
 }
 
-// 10 for a mark above 1.
+// 10 for a mark above 1, and for a number that is not 0 behind a mark of 0.
+fn marked_refusal(mark: u8, number: u32) -> u32
+    ensures { λ r. ⌜ r ≡ markedRefusal mark number ⌝ }
+{
+    need(
+        mark <= 1,
+        10,
+        refuse_if(mark == 1, 0, need(number == 0, 10, 0)),
+    )
+}
+
+// 10 for a mark above 1, or a number that would be lost.
 pub fn fault_marks(f: FaultFields) -> u32
     ensures { λ r. ⌜ r ≡ faultMarks f ⌝ }
 {
-    let last = need(f.ifid <= 1, 10, need(f.globalid <= 1, 10, 0));
+    let interface = or_else(
+        marked_refusal(f.ifid, f.node),
+        marked_refusal(f.ifid, f.interface),
+    );
+    let last = or_else(interface, marked_refusal(f.globalid, f.global));
     need(f.linkdown <= 1, 10, need(f.removed <= 1, 10, last))
 }
