@@ -7,4 +7,5 @@ pub mod ThinCall
 pub mod ThinAsk
 pub mod ThinWrite
 pub mod Messages
+pub mod OnTheLine
 pub mod Places

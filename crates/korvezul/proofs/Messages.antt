@@ -83,9 +83,9 @@ fault-back f =
     rw (bit-back (f .linkdown) (bitOf (f .linkdown)) refl, bit-back (f .removed) (bitOf (f .removed)) refl, if-id-back (f .kind) (f .interface), global-id-back (f .global))
 
 -- a mark and a number that are not refused: the mark is 0 or 1, and behind 0 the number is 0
-record Marked (mark number : ℕ) : Type 0 where
-  bit : mark < 2
-  nothing : mark ≡ 0 → number ≡ 0
+pub record Marked (mark number : ℕ) : Type 0 where
+  pub bit : mark < 2
+  pub nothing : mark ≡ 0 → number ≡ 0
 
 marked : (mark number : ℕ) → markedRefusal mark number ≡ 0 → Marked mark number
 unfolding markedRefusal
@@ -94,6 +94,31 @@ marked (suc zero) number e = record { bit = omega arith; nothing = λ z. omega a
 marked (suc (suc mark)) number e =
     let h = leb-true (suc (suc mark)) 1 (need-passed (leb (suc (suc mark)) 1) 9 _ e .0) in
     record { bit = omega arith; nothing = λ z. omega arith }
+
+-- the marks of fields that are not refused
+pub record MarksSay (f : FaultFields) : Type 0 where
+  pub linkdown : f .linkdown < 2
+  pub removed : f .removed < 2
+  pub node : Marked (f .ifid) (f .node)
+  pub interface : Marked (f .ifid) (f .interface)
+  pub global : Marked (f .globalid) (f .global)
+
+pub marks-say : (f : FaultFields) → faultMarks f ≡ 0 → MarksSay f
+unfolding faultMarks
+marks-say f e =
+    let l = need-passed (leb (f .linkdown) 1) 9 _ e in
+    let r = need-passed (leb (f .removed) 1) 9 _ (l .1) in
+    let low : f .linkdown < 2 = omega (arith, leb-true (f .linkdown) 1 (l .0)) in
+    let low′ : f .removed < 2 = omega (arith, leb-true (f .removed) 1 (r .0)) in
+    let ids = orElse-passed _ _ (r .1) in
+    let if-id = orElse-passed _ _ (ids .0) in
+    record {
+      linkdown = low;
+      removed = low′;
+      node = marked (f .ifid) (f .node) (if-id .0);
+      interface = marked (f .ifid) (f .interface) (if-id .1);
+      global = marked (f .globalid) (f .global) (ids .1);
+    }
 
 -- an IF_ID and a Global_ID that are not refused, as the message has them and back
 if-id-again : (k present node interface : ℕ) → Marked present node → Marked present interface
@@ -109,17 +134,13 @@ global-id-again (suc (suc present)) global m = absurd (omega (arith, m .bit))
 
 -- fields that are not refused for a mark, as a fault message and back
 pub fault-fields-back : (f : FaultFields) → faultMarks f ≡ 0 → faultFields (faultFrom f) ≡ f
-unfolding faultMarks
 fault-fields-back f e =
-    let l = need-passed (leb (f .linkdown) 1) 9 _ e in
-    let r = need-passed (leb (f .removed) 1) 9 _ (l .1) in
-    let ids = orElse-passed _ _ (r .1) in
-    let if-id = orElse-passed _ _ (ids .0) in
+    let m = marks-say f e in
     rw (
-      mark (f .linkdown) _ l,
-      mark (f .removed) _ r,
-      if-id-again (f .kind) (f .ifid) (f .node) (f .interface) (marked (f .ifid) (f .node) (if-id .0)) (marked (f .ifid) (f .interface) (if-id .1)),
-      global-id-again (f .globalid) (f .global) (marked (f .globalid) (f .global) (ids .1)),
+      bit-again (f .linkdown) (m .linkdown),
+      bit-again (f .removed) (m .removed),
+      if-id-again (f .kind) (f .ifid) (f .node) (f .interface) (m .node) (m .interface),
+      global-id-again (f .globalid) (f .global) (m .global),
     )
 
 -- what a host writes, a host reads, whatever stands behind it: no field is lost

@@ -1,3 +1,4 @@
 pub mod Calling
 pub mod Fields
 pub mod Messages
+pub mod OnTheLine

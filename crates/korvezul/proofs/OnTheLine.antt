@@ -1,0 +1,154 @@
+-- Every field that an exported reader hands out, and every field that an exported writer is handed, stands in the octets at its own place. So two fields that are
+-- taken for each other are noticed, even where definition and code do so alike, in reading and in writing.
+-- Assumes nothing.
+use mathlib.Core.Path.{_≡_, refl, sym, ap, subst, _∙_}
+use mathlib.Core.Bool.{Bool, true, false}
+use mathlib.Core.List.{List, [], _∷_, _++_}
+use Prim.Native.Nat.{ℕ, zero, suc, _+_, _*_, _/_, _%_, _^_, _<_}
+use native.Mathlib.Omega.{arith}
+use lib.Dec.{eqb, eqb·suc-zero}
+use lib.ListN.{getD}
+use Rattle.octets.specs.Choice.{Answer, accepted, refused, number, answer, bitOf}
+use Rattle.octets.proofs.Numbers.{read-of}
+use Rattle.octets.proofs.Chain.{bit-again, orElse-passed}
+use Rattle.bfd.specs.declared.Packet.{Packet}
+use Rattle.bfd.specs.Packet.{flagOctet, packetOf, Sized}
+use Rattle.bfd.specs.Reception.{ccRefusal, readCc}
+use Rattle.bfd.specs.Octets.{packetOctets, ccOctets}
+use Rattle.cv.specs.declared.MepId.{MepId}
+use Rattle.cv.specs.declared.Verification.{Verification}
+use Rattle.cv.specs.MepId.{MepSized}
+use Rattle.cv.specs.Cv.{mepAt, readCv, cvRefusal, verificationOf, cvOctets}
+use Rattle.cv.proofs.Says.{cv-says}
+use Rattle.fault.specs.Octets.{faultOctets, fieldRefusal}
+use Rattle.fault.specs.Plain.{Sized as FaultSized}
+use Rattle.korvezul.specs.declared.fields.PacketFields.{PacketFields}
+use Rattle.korvezul.specs.declared.fields.FaultFields.{FaultFields}
+use Rattle.korvezul.specs.declared.readers.CcRead.{CcRead}
+use Rattle.korvezul.specs.declared.readers.CvRead.{CvRead}
+use Rattle.korvezul.specs.Fields.{packetFields, packetFrom, faultFrom, faultMarks}
+use Rattle.korvezul.specs.Messages.{ccRead, cvRead, ccWriteRefusal, cvWriteRefusal, faultWriteRefusal}
+use Rattle.korvezul.specs.OnTheLine.{PacketStands, MepStands, FaultStands}
+use Rattle.korvezul.proofs.Messages.{cc-there-and-back, cv-there-and-back, marks-say}
+
+-- an answer of 0 is accepted, with the values behind it
+read-accepted : {A : Type 0} (n : ℕ) (a : A) → number (answer n a) ≡ 0 → (n ≡ 0) × (answer n a ≡ accepted a)
+read-accepted zero a e = (refl, refl)
+read-accepted (suc n) a e = absurd (omega (arith, rw (eqb·suc-zero n) at e))
+
+cc-number : (x : Answer Packet) → ccRead x .answer ≡ number x
+cc-number (accepted p) = refl
+cc-number (refused n) = refl
+
+cv-number : (part : ℕ) (x : Answer Verification) → cvRead part x .answer ≡ number x
+cv-number part (accepted p) = refl
+cv-number part (refused n) = refl
+
+packet-stands : (m : List ℕ) → PacketStands m (packetFields (packetOf m))
+unfolding packetOf
+packet-stands m =
+    let x = flagOctet m in
+    record {
+      diagnostic = refl;
+      state = refl;
+      poll = sym (bit-again (x / 32 % 2) (omega arith));
+      fin = sym (bit-again (x / 16 % 2) (omega arith));
+      independent = sym (bit-again (x / 8 % 2) (omega arith));
+      demand = sym (bit-again (x / 2 % 2) (omega arith));
+      multiplier = refl;
+      my = refl;
+      your = refl;
+      transmit = refl;
+      receive = refl;
+      echo = refl;
+    }
+
+-- what the reader of a CC hands out under 0
+pub cc-read-stands : (m : List ℕ) → ccRead (readCc m) .answer ≡ 0 → PacketStands m (ccRead (readCc m) .packet)
+unfolding readCc
+cc-read-stands m e =
+    let r = read-accepted (ccRefusal m) (packetOf m) (sym (cc-number (readCc m)) ∙ e) in
+    subst (λ (x : Answer Packet). PacketStands m (ccRead x .packet)) (sym (r .1)) (packet-stands m)
+
+-- and the reader of a CV: the packet, and the MEP-ID from the place that it hands out
+pub cv-read-stands : (m : List ℕ) → cvRead (mepAt m) (readCv m) .answer ≡ 0
+    → PacketStands m (cvRead (mepAt m) (readCv m) .packet) × MepStands m (cvRead (mepAt m) (readCv m) .part) (cvRead (mepAt m) (readCv m) .mep)
+unfolding readCv
+cv-read-stands m e =
+    let r = read-accepted (cvRefusal m) (verificationOf m) (sym (cv-number (mepAt m) (readCv m)) ∙ e) in
+    let mep : MepStands m (mepAt m) (verificationOf m .mep) = record { kind = refl; size = cv-says m (r .0) .size; global = refl; node = refl; local = refl } in
+    subst (λ (x : Answer Verification). PacketStands m (cvRead (mepAt m) x .packet) × MepStands m (cvRead (mepAt m) x .part) (cvRead (mepAt m) x .mep)) (sym (r .1)) (packet-stands m, mep)
+
+-- what the writer of a CC is handed, and does not refuse
+pub cc-written-stands : (f : PacketFields) (pad : List ℕ) → Sized (packetFrom f) → ccWriteRefusal f ≡ 0 → PacketStands (ccOctets (packetFrom f) ++ pad) f
+cc-written-stands f pad s e =
+    let m = ccOctets (packetFrom f) ++ pad in
+    let back = cc-there-and-back f pad s e in
+    subst (λ (r : CcRead). PacketStands m (r .packet)) back (cc-read-stands m (ap (λ (r : CcRead). r .answer) back))
+
+pub cv-written-stands : (f : PacketFields) (id : MepId) (pad : List ℕ) → Sized (packetFrom f) → MepSized id → cvWriteRefusal f id ≡ 0
+    → PacketStands (cvOctets (packetFrom f) id ++ pad) f × MepStands (cvOctets (packetFrom f) id ++ pad) 28 id
+unfolding packetOctets
+cv-written-stands f id pad s t e =
+    let m = cvOctets (packetFrom f) id ++ pad in
+    let back = cv-there-and-back f id (mepAt m) pad s t e in
+    subst (λ (r : CvRead). PacketStands m (r .packet) × MepStands m (r .part) (r .mep)) back (cv-read-stands m (ap (λ (r : CvRead). r .answer) back))
+
+-- the flags of a written fault message, bit by bit
+flags-stand : (l r : ℕ) → l < 2 → r < 2
+    → ((bitOf (eqb l 1) * 2 + bitOf (eqb r 1)) / 2 % 2 ≡ l) × ((bitOf (eqb l 1) * 2 + bitOf (eqb r 1)) % 2 ≡ r)
+flags-stand l r h k = rw (bit-again l h, bit-again r k) (omega arith, omega arith)
+
+module _ (node interface global kind linkdown removed refresh : ℕ) (pad : List ℕ) (l : linkdown < 2) (r : removed < 2) where
+  abbrev fields : ℕ → ℕ → FaultFields
+  fields i g =
+      record { node = node; interface = interface; global = global; kind = kind; linkdown = linkdown; removed = removed; refresh = refresh; ifid = i; globalid = g }
+
+  -- each presence by itself
+  stands : (i g : ℕ) → i < 2 → g < 2 → FaultSized (faultFrom (fields i g)) → FaultStands (faultOctets (faultFrom (fields i g)) ++ pad) (fields i g)
+  unfolding faultOctets
+  stands zero zero h k s =
+      let flags = flags-stand linkdown removed l r in
+      record { kind = refl; linkdown = flags .0; removed = flags .1; refresh = refl; total = refl; if-id = λ z. absurd (omega arith); global-id = λ z. absurd (omega arith) }
+  stands zero (suc zero) h k s =
+      let flags = flags-stand linkdown removed l r in
+      record {
+        kind = refl;
+        linkdown = flags .0;
+        removed = flags .1;
+        refresh = refl;
+        total = refl;
+        if-id = λ z. absurd (omega arith);
+        global-id = λ z. record { kind = refl; size = refl; global = read-of 4 global [] (s .global) };
+      }
+  stands (suc zero) zero h k s =
+      let flags = flags-stand linkdown removed l r in
+      record {
+        kind = refl;
+        linkdown = flags .0;
+        removed = flags .1;
+        refresh = refl;
+        total = refl;
+        if-id = λ z. record { kind = refl; size = refl; node = read-of 4 node [] (s .interface .0); interface = read-of 4 interface [] (s .interface .1) };
+        global-id = λ z. absurd (omega arith);
+      }
+  stands (suc zero) (suc zero) h k s =
+      let flags = flags-stand linkdown removed l r in
+      record {
+        kind = refl;
+        linkdown = flags .0;
+        removed = flags .1;
+        refresh = refl;
+        total = refl;
+        if-id = λ z. record { kind = refl; size = refl; node = read-of 4 node [] (s .interface .0); interface = read-of 4 interface [] (s .interface .1) };
+        global-id = λ z. record { kind = refl; size = refl; global = read-of 4 global [] (s .global) };
+      }
+  stands (suc (suc i)) g h k s = absurd (omega arith)
+  stands zero (suc (suc g)) h k s = absurd (omega arith)
+  stands (suc zero) (suc (suc g)) h k s = absurd (omega arith)
+
+-- what the writer of a fault message is handed, and does not refuse. What its reader hands out is the same again (`fault-there-and-back`)
+pub fault-written-stands : (f : FaultFields) (pad : List ℕ) → FaultSized (faultFrom f) → faultWriteRefusal f ≡ 0 → FaultStands (faultOctets (faultFrom f) ++ pad) f
+fault-written-stands f pad s e =
+    let m = marks-say f (orElse-passed (faultMarks f) (fieldRefusal (faultFrom f)) e .0) in
+    stands (f .node) (f .interface) (f .global) (f .kind) (f .linkdown) (f .removed) (f .refresh) pad (m .linkdown) (m .removed) (f .ifid) (f .globalid) (m .node .bit) (m .global .bit) s
