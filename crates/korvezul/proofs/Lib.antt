@@ -1,4 +1,5 @@
 pub mod OneStep
+pub mod Promised
 pub mod Fold
 pub mod LentValue
 pub mod CallPlains

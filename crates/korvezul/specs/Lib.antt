@@ -2,3 +2,5 @@ pub mod Calling
 pub mod Fields
 pub mod Messages
 pub mod OnTheLine
+pub mod Runs
+pub mod Version

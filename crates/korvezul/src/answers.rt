@@ -11,7 +11,8 @@ ghost use Rattle.korvezul.specs.Calling.{answeredWith, reportOf};
 pub fn number(o: Outcome) -> u32
     ensures { λ r. ⌜ r ≡ o .answer ⌝ }
 {
-    o.answer
+    let answer = o.answer;
+    answer
 }
 
 // The seven numbers behind an answer.

@@ -5,6 +5,7 @@ mod answers;
 mod fields;
 mod readers;
 mod requests;
+mod version;
 mod writers;
 
 use answers::number;
