@@ -14,7 +14,7 @@ use Rattle.octets.proofs.Chain.{need-passed, bar-passed, orElse-passed}
 use Rattle.gach.specs.Header.{cvChannel}
 use Rattle.bfd.proofs.Says.{ControlSays, control-says, control-passes}
 use Rattle.cv.specs.MepId.{mepIdAt, mepRefusal}
-use Rattle.cv.specs.Cv.{mepAt, cvRefusal, mepPart}
+use Rattle.cv.specs.Cv.{mepAt, cvRefusal, mepPart, partAt}
 
 pub record CvSays (m : List ℕ) : Type 0 where
   pub control : ControlSays cvChannel m
@@ -49,6 +49,15 @@ part-length m e =
 pub part-refused : (m : List ℕ) → (cvRefusal m ≡ 0 → ⊥) → mepPart m ≡ []
 unfolding mepPart
 part-refused m h = rw (ne-eqb _ _ h)
+
+-- and so it lies
+pub at-accepted : (m : List ℕ) → cvRefusal m ≡ 0 → partAt m ≡ mepAt m
+unfolding partAt
+at-accepted m e = rw (eq-eqb _ _ e)
+
+pub at-refused : (m : List ℕ) → (cvRefusal m ≡ 0 → ⊥) → partAt m ≡ 0
+unfolding partAt
+at-refused m h = rw (ne-eqb _ _ h)
 
 -- the MEP-ID of an accepted message is what its part reads to
 pub part-reads : (m : List ℕ) → cvRefusal m ≡ 0 → mepIdAt (mepPart m) 0 ≡ mepIdAt m (mepAt m)

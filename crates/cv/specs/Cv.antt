@@ -46,6 +46,10 @@ readCv m = answer (cvRefusal m) (verificationOf m)
 unfoldable pub mepPart : List ℕ → List ℕ
 mepPart m = cond (eqb (cvRefusal m) 0) (take 16 (drop (mepAt m) m)) []
 
+-- where it lies in the message: at the MEP-ID; the empty part lies at the message's start
+unfoldable pub partAt : List ℕ → ℕ
+partAt m = cond (eqb (cvRefusal m) 0) (mepAt m) 0
+
 -- the 44 octets of a plain CV
 abbrev pub cvOctets : Packet → MepId → List ℕ
 cvOctets p id = packetOctets cvChannel p (mepOctets id [])

@@ -10,7 +10,7 @@ ghost use mathlib.Core.Path.{_≡_};
 ghost use Prim.Native.Nat.{_+_};
 ghost use lib.ListN.{getD};
 ghost use Rattle.octets.specs.Choice.{answer};
-ghost use Rattle.cv.specs.Cv.{mepAt, cvRefusal, verificationOf, said, readCv, mepPart};
+ghost use Rattle.cv.specs.Cv.{mepAt, cvRefusal, verificationOf, said, readCv, mepPart, partAt};
 
 // Where the MEP-ID starts: right after Length octets.
 fn mep_at(m: &[u8]) -> u16
@@ -54,9 +54,12 @@ pub fn read_cv(m: &[u8]) -> CvAnswer
     cv_answer(cv_refusal(m), verification(m))
 }
 
-// The MEP-ID of an accepted message as a part of it, type to end; of a refused one the empty part.
+// The MEP-ID of an accepted message as a part of it, type to end; of a refused one the empty part
+// at its start. `which` says what octets it has, `whose` that it lies in the caller's own message,
+// and where.
 pub fn mep_part(m: &[u8]) -> &[u8]
-    ensures { λ r. ⌜ now r ≡ mepPart (now (m .entry)) ⌝ }
+    ensures which { λ r. ⌜ now r ≡ mepPart (now (m .entry)) ⌝ }
+    ensures whose { λ r. ⌜ (r .ptr .0 ≡ m .entry .ptr .0) × (r .ptr .1 ≡ partAt (now (m .entry)) + m .entry .ptr .1) ⌝ }
 {
     let refusal = cv_refusal(m);
     let at = mep_at(m) as usize;
