@@ -17,7 +17,7 @@ use Rattle.bfd.specs.Octets.{ccOctets, ccFieldRefusal}
 use Rattle.bfd.proofs.RoundTrip as bfd
 use Rattle.cv.specs.declared.MepId.{MepId}
 use Rattle.cv.specs.MepId.{MepSized}
-use Rattle.cv.specs.Cv.{mepAt, mepPart, readCv, cvRefusal, cvOctets, cvFieldRefusal}
+use Rattle.cv.specs.Cv.{mepAt, mepPart, partAt, readCv, cvRefusal, cvOctets, cvFieldRefusal}
 use Rattle.cv.proofs.RoundTrip as cv
 use Rattle.fault.specs.declared.Fault.{Fault}
 use Rattle.fault.specs.declared.IfId.{IfId}
@@ -29,6 +29,7 @@ use Rattle.fault.specs.Octets.{faultOctets, fieldRefusal}
 use Rattle.fault.specs.Plain.{Sized as FaultSized}
 use Rattle.fault.proofs.RoundTrip as fault
 use Rattle.rules.specs.Conditions.{keyWith}
+use Rattle.rules.proofs.Bools.{split}
 use Rattle.korvezul.specs.declared.fields.PacketFields.{PacketFields}
 use Rattle.korvezul.specs.declared.fields.FaultFields.{FaultFields}
 use Rattle.korvezul.specs.declared.readers.CcRead.{CcRead}
@@ -154,3 +155,8 @@ fault-there-and-back f pad s e =
 pub part-stands : (m : List ℕ) → cvRefusal m ≡ 0 → mepPart m ≡ take 16 (drop (cvRead (mepAt m) (readCv m) .part) m)
 unfolding mepPart readCv
 part-stands m e = rw (eq-eqb (cvRefusal m) 0 e)
+
+-- and where `cv::mep_part` says that its part lies, of a refused message too
+pub part-lies : (m : List ℕ) → cvRead (mepAt m) (readCv m) .part ≡ partAt m
+unfolding partAt readCv
+part-lies m = split (eqb (cvRefusal m) 0) (λ e. rw e) (λ e. rw e)

@@ -28,8 +28,8 @@ use Rattle.korvezul.specs.declared.readers.CcRead.{CcRead}
 use Rattle.korvezul.specs.declared.readers.CvRead.{CvRead}
 use Rattle.korvezul.specs.Fields.{packetFields, packetFrom, faultFrom, faultMarks}
 use Rattle.korvezul.specs.Messages.{ccRead, cvRead, ccWriteRefusal, cvWriteRefusal, faultWriteRefusal}
-use Rattle.korvezul.specs.OnTheLine.{PacketStands, MepStands, FaultStands}
-use Rattle.korvezul.proofs.Messages.{cc-there-and-back, cv-there-and-back, marks-say}
+use Rattle.korvezul.specs.OnTheLine.{PacketStands, MepStands, IfIdStands, GlobalIdStands, FaultStands}
+use Rattle.korvezul.proofs.Messages.{cc-there-and-back, cv-there-and-back, MarksSay, marks-say}
 
 -- an answer of 0 is accepted, with the values behind it
 read-accepted : {A : Type 0} (n : ℕ) (a : A) → number (answer n a) ≡ 0 → (n ≡ 0) × (answer n a ≡ accepted a)
@@ -99,56 +99,56 @@ flags-stand : (l r : ℕ) → l < 2 → r < 2
     → ((bitOf (eqb l 1) * 2 + bitOf (eqb r 1)) / 2 % 2 ≡ l) × ((bitOf (eqb l 1) * 2 + bitOf (eqb r 1)) % 2 ≡ r)
 flags-stand l r h k = rw (bit-again l h, bit-again r k) (omega arith, omega arith)
 
-module _ (node interface global kind linkdown removed refresh : ℕ) (pad : List ℕ) (l : linkdown < 2) (r : removed < 2) where
+module _ (node interface global kind linkdown removed refresh : ℕ) (pad : List ℕ) where
   abbrev fields : ℕ → ℕ → FaultFields
   fields i g =
       record { node = node; interface = interface; global = global; kind = kind; linkdown = linkdown; removed = removed; refresh = refresh; ifid = i; globalid = g }
 
-  -- each presence by itself
-  stands : (i g : ℕ) → i < 2 → g < 2 → FaultSized (faultFrom (fields i g)) → FaultStands (faultOctets (faultFrom (fields i g)) ++ pad) (fields i g)
+  abbrev octets : ℕ → ℕ → List ℕ
+  octets i g = faultOctets (faultFrom (fields i g)) ++ pad
+
+  total-stands : (i g : ℕ) → i < 2 → g < 2 → getD (octets i g) 8 0 ≡ i * 10 + g * 6
   unfolding faultOctets
-  stands zero zero h k s =
-      let flags = flags-stand linkdown removed l r in
-      record { kind = refl; linkdown = flags .0; removed = flags .1; refresh = refl; total = refl; if-id = λ z. absurd (omega arith); global-id = λ z. absurd (omega arith) }
-  stands zero (suc zero) h k s =
-      let flags = flags-stand linkdown removed l r in
+  total-stands zero zero h k = refl
+  total-stands zero (suc zero) h k = refl
+  total-stands (suc zero) zero h k = refl
+  total-stands (suc zero) (suc zero) h k = refl
+  total-stands (suc (suc i)) g h k = absurd (omega arith)
+  total-stands zero (suc (suc g)) h k = absurd (omega arith)
+  total-stands (suc zero) (suc (suc g)) h k = absurd (omega arith)
+
+  if-id-stands : (i g : ℕ) → i ≡ 1 → FaultSized (faultFrom (fields i g)) → IfIdStands (octets i g) 9 (fields i g)
+  unfolding faultOctets
+  if-id-stands zero g e s = absurd (omega arith)
+  if-id-stands (suc zero) g e s =
+      record { kind = refl; size = refl; node = read-of 4 node [] (s .interface .0); interface = read-of 4 interface [] (s .interface .1) }
+  if-id-stands (suc (suc i)) g e s = absurd (omega arith)
+
+  global-id-stands : (i g : ℕ) → i < 2 → g ≡ 1 → FaultSized (faultFrom (fields i g)) → GlobalIdStands (octets i g) (9 + i * 10) (fields i g)
+  unfolding faultOctets
+  global-id-stands i zero h e s = absurd (omega arith)
+  global-id-stands zero (suc zero) h e s = record { kind = refl; size = refl; global = read-of 4 global [] (s .global) }
+  global-id-stands (suc zero) (suc zero) h e s = record { kind = refl; size = refl; global = read-of 4 global [] (s .global) }
+  global-id-stands (suc (suc i)) (suc g) h e s = absurd (omega arith)
+  global-id-stands zero (suc (suc g)) h e s = absurd (omega arith)
+  global-id-stands (suc zero) (suc (suc g)) h e s = absurd (omega arith)
+
+  fault-stands : (i g : ℕ) → MarksSay (fields i g) → FaultSized (faultFrom (fields i g)) → FaultStands (octets i g) (fields i g)
+  unfolding faultOctets
+  fault-stands i g m s =
+      let flags = flags-stand linkdown removed (m .linkdown) (m .removed) in
       record {
         kind = refl;
         linkdown = flags .0;
         removed = flags .1;
         refresh = refl;
-        total = refl;
-        if-id = λ z. absurd (omega arith);
-        global-id = λ z. record { kind = refl; size = refl; global = read-of 4 global [] (s .global) };
+        total = total-stands i g (m .node .bit) (m .global .bit);
+        if-id = λ e. if-id-stands i g e s;
+        global-id = λ e. global-id-stands i g (m .node .bit) e s;
       }
-  stands (suc zero) zero h k s =
-      let flags = flags-stand linkdown removed l r in
-      record {
-        kind = refl;
-        linkdown = flags .0;
-        removed = flags .1;
-        refresh = refl;
-        total = refl;
-        if-id = λ z. record { kind = refl; size = refl; node = read-of 4 node [] (s .interface .0); interface = read-of 4 interface [] (s .interface .1) };
-        global-id = λ z. absurd (omega arith);
-      }
-  stands (suc zero) (suc zero) h k s =
-      let flags = flags-stand linkdown removed l r in
-      record {
-        kind = refl;
-        linkdown = flags .0;
-        removed = flags .1;
-        refresh = refl;
-        total = refl;
-        if-id = λ z. record { kind = refl; size = refl; node = read-of 4 node [] (s .interface .0); interface = read-of 4 interface [] (s .interface .1) };
-        global-id = λ z. record { kind = refl; size = refl; global = read-of 4 global [] (s .global) };
-      }
-  stands (suc (suc i)) g h k s = absurd (omega arith)
-  stands zero (suc (suc g)) h k s = absurd (omega arith)
-  stands (suc zero) (suc (suc g)) h k s = absurd (omega arith)
 
 -- what the writer of a fault message is handed, and does not refuse. What its reader hands out is the same again (`fault-there-and-back`)
 pub fault-written-stands : (f : FaultFields) (pad : List ℕ) → FaultSized (faultFrom f) → faultWriteRefusal f ≡ 0 → FaultStands (faultOctets (faultFrom f) ++ pad) f
 fault-written-stands f pad s e =
-    let m = marks-say f (orElse-passed (faultMarks f) (fieldRefusal (faultFrom f)) e .0) in
-    stands (f .node) (f .interface) (f .global) (f .kind) (f .linkdown) (f .removed) (f .refresh) pad (m .linkdown) (m .removed) (f .ifid) (f .globalid) (m .node .bit) (m .global .bit) s
+    fault-stands (f .node) (f .interface) (f .global) (f .kind) (f .linkdown) (f .removed) (f .refresh) pad (f .ifid) (f .globalid)
+    (marks-say f (orElse-passed (faultMarks f) (fieldRefusal (faultFrom f)) e .0)) s
