@@ -137,12 +137,10 @@ global-id-again (suc (suc present)) global m = absurd (omega (arith, m .bit))
 pub fault-fields-back : (f : FaultFields) → faultMarks f ≡ 0 → faultFields (faultFrom f) ≡ f
 fault-fields-back f e =
     let m = marks-say f e in
-    rw (
-      bit-again (f .linkdown) (m .linkdown),
-      bit-again (f .removed) (m .removed),
-      if-id-again (f .kind) (f .ifid) (f .node) (f .interface) (m .node) (m .interface),
-      global-id-again (f .globalid) (f .global) (m .global),
-    )
+    let node = m .node in
+    let interface = m .interface in
+    let global = m .global in
+    rw (bit-again (f .linkdown) (m .linkdown), bit-again (f .removed) (m .removed), if-id-again, global-id-again)
 
 -- what a host writes, a host reads, whatever stands behind it: no field is lost
 pub fault-there-and-back : (f : FaultFields) (pad : List ℕ) → FaultSized (faultFrom f) → faultWriteRefusal f ≡ 0
