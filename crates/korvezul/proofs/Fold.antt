@@ -2,7 +2,7 @@
 -- left, then from each function's own `ensures` alone: row, clock, set and everything said are those of the fold that `demand3` speaks of.
 -- Assumes nothing.
 use Prim.Native.Nat.{ℕ}
-use mathlib.Core.Path.{_≡_, refl, sym, ap, subst, _∙_}
+use mathlib.Core.Path.{_≡_, sym, ap, subst, _∙_}
 use mathlib.Core.List.{List, [], _∷_}
 use lib.ListN.{length}
 use borrow.Author.Tests.{eq-eqb}
@@ -27,7 +27,7 @@ use Rattle.meaning.proofs.Demand.{demand3}
 use Rattle.korvezul.specs.Calling.{Called, called, Emptied, emptying}
 use Rattle.korvezul.specs.Runs.{PublicCall, Promises, HandedOn, callsOf, toldBehind, RunDemand3}
 use Rattle.korvezul.proofs.korvezul_empty as empty
-use Rattle.korvezul.proofs.Promised.{functionOf, Exchange, callOf, ensured, allEnsured, tableCalls}
+use Rattle.korvezul.proofs.Promised.{functionOf, Exchange, ensured, allEnsured, tableCalls}
 
 -- a run is the fold
 pub run-is-fold : (cs : List PublicCall) (t v : Table) → Promises cs → HandedOn t cs v → (h : History)
