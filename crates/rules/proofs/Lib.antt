@@ -3,6 +3,8 @@ pub mod Failing
 pub mod Unfit
 pub mod Ages
 pub mod States
+pub mod Figure7
+pub mod Codes
 pub mod SameKeys
 pub mod Fitting
 pub mod Lists

@@ -1,9 +1,11 @@
 pub mod Times
 pub mod States
+pub mod Figure7
 pub mod Settings
 pub mod Conditions
 pub mod Received
 pub mod Diagnostics
+pub mod Codes
 pub mod Calls
 pub mod Lists
 pub mod Unfit

@@ -1,0 +1,58 @@
+-- Figure 7 of RFC 6428 as it is drawn: three boxes, eight arrows, and the inputs that stand at each. It says again what the moving table
+-- of `States` says, from the drawing and in the paper's states alone; that the two agree is proved.
+-- Assumes nothing.
+use Prim.Native.Nat.{ℕ}
+use mathlib.Core.Bool.{Bool, cond, _&&_}
+use mathlib.Core.List.{List, [], _∷_}
+use lib.Dec.{eqb}
+use Rattle.rules.specs.Lists.{any}
+use Rattle.rules.specs.States.{received}
+use Rattle.rules.specs.declared.Input.{Input}
+use Rattle.rules.specs.declared.Input.the-variants.{GotAdminDown, GotDown, GotInit, GotUp, Timer, LinkDown, LockReport, Crossed}
+
+-- an arrow: the box that it leaves, the inputs that stand at it, the box that it leads to
+pub data Arrow : Type 0 where
+  Leads : (box : ℕ) (inputs : List Input) (to : ℕ) → Arrow
+
+-- DOWN is 1, INIT 2, UP 3, as a box and as a state that is received; ADMIN DOWN, 0, is received and has no box. LDI is `LinkDown`, LKR
+-- `LockReport`, MIS-CONNECTIVITY `Crossed`, which the rules paper gives for a crossed CC as for a crossed CV.
+abbrev pub arrows : List Arrow
+arrows =
+    Leads 1 (received 3 ∷ received 0 ∷ Timer ∷ LinkDown ∷ LockReport ∷ []) 1
+    ∷ Leads 1 (received 1 ∷ []) 2
+    ∷ Leads 1 (received 2 ∷ []) 3
+    ∷ Leads 2 (received 0 ∷ Timer ∷ LinkDown ∷ LockReport ∷ []) 1
+    ∷ Leads 2 (received 1 ∷ []) 2
+    ∷ Leads 2 (received 2 ∷ received 3 ∷ []) 3
+    ∷ Leads 3 (Crossed ∷ received 0 ∷ received 1 ∷ Timer ∷ LinkDown ∷ LockReport ∷ []) 1
+    ∷ Leads 3 (received 2 ∷ received 3 ∷ []) 3
+    ∷ []
+
+-- inputs told apart by a number for each
+abbrev pub inputNumber : Input → ℕ
+inputNumber GotAdminDown = 0
+inputNumber GotDown = 1
+inputNumber GotInit = 2
+inputNumber GotUp = 3
+inputNumber Timer = 4
+inputNumber LinkDown = 5
+inputNumber LockReport = 6
+inputNumber Crossed = 7
+
+abbrev pub isAmong : Input → List Input → Bool
+isAmong input inputs = any (λ (i : Input). eqb (inputNumber i) (inputNumber input)) inputs
+
+-- the end of the arrow at which the input stands; an input that is not drawn leaves the state
+abbrev pub ledBy : ℕ → Input → List Arrow → ℕ
+ledBy state input [] = state
+ledBy state input (Leads box inputs to ∷ rest) = cond (eqb box state && isAmong input inputs) to (ledBy state input rest)
+
+abbrev pub drawn : ℕ → Input → ℕ
+drawn state input = ledBy state input arrows
+
+-- diagnostic 3 is for DOWN by a received state: afterwards the session is DOWN, and either it was DOWN before and by a received state, or
+-- the input that led it there is a received state
+abbrev pub remembered : Bool → ℕ → Input → Bool
+remembered before state input =
+    eqb (drawn state input) 1
+    && cond (eqb state 1) before (isAmong input (received 0 ∷ received 1 ∷ received 2 ∷ received 3 ∷ []))
