@@ -7,15 +7,15 @@ use mathlib.Core.List.{List, [], _∷_}
 use lib.Dec.{eqb}
 use Rattle.rules.specs.Lists.{any}
 
-pub data Code : Type 0 where
-  NoDiagnostic : Code
-  ControlDetectionTimeExpired : Code
-  NeighborSignaledSessionDown : Code
-  PathDown : Code
-  AdministrativelyDown : Code
-  MisConnectivityDefect : Code
+pub data DiagnosticCode : Type 0 where
+  NoDiagnostic : DiagnosticCode
+  ControlDetectionTimeExpired : DiagnosticCode
+  NeighborSignaledSessionDown : DiagnosticCode
+  PathDown : DiagnosticCode
+  AdministrativelyDown : DiagnosticCode
+  MisConnectivityDefect : DiagnosticCode
 
-abbrev pub codeNumber : Code → ℕ
+abbrev pub codeNumber : DiagnosticCode → ℕ
 codeNumber NoDiagnostic = 0
 codeNumber ControlDetectionTimeExpired = 1
 codeNumber NeighborSignaledSessionDown = 3
@@ -25,18 +25,19 @@ codeNumber MisConnectivityDefect = 9
 
 -- RDI is told by the code for a loss, for a condition that is followed, for a crossing, and by no other of the 32 numbers
 abbrev pub tellsRdi : ℕ → Bool
-tellsRdi number = any (λ (c : Code). eqb number (codeNumber c)) (ControlDetectionTimeExpired ∷ PathDown ∷ MisConnectivityDefect ∷ [])
+tellsRdi number = any (λ (c : DiagnosticCode). eqb number (codeNumber c)) (ControlDetectionTimeExpired ∷ PathDown ∷ MisConnectivityDefect ∷ [])
 
 -- a reason to write a code, there or not
 pub data Reason : Type 0 where
-  Because : Bool → Code → Reason
+  Because : Bool → DiagnosticCode → Reason
 
 -- the code of the first reason that is there
-abbrev pub firstCode : List Reason → Code
+abbrev pub firstCode : List Reason → DiagnosticCode
 firstCode [] = NoDiagnostic
 firstCode (Because there code ∷ rest) = cond there code (firstCode rest)
 
-abbrev pub codeOf : Bool → Bool → Bool → Bool → Bool → Code
+-- the code written, its reasons in the rules paper's order
+abbrev pub codeOf : Bool → Bool → Bool → Bool → Bool → DiagnosticCode
 codeOf locked crossing followed loss neighbor =
     firstCode
     (Because locked AdministrativelyDown
