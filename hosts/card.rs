@@ -22,8 +22,8 @@ struct Settings {
     period: u32,
     own: MepId,
     expected: MepId,
-    link: u8,
-    lock: u8,
+    follow_link: u8,
+    follow_lock: u8,
 }
 
 #[repr(C)]
@@ -41,7 +41,7 @@ struct Condition {
     at: u64,
     key: Key,
     refresh: u8,
-    link: u8,
+    link_down: u8,
 }
 
 #[repr(C)]
@@ -74,7 +74,7 @@ struct Head {
 
 #[repr(C)]
 #[derive(Clone, Copy)]
-struct Report {
+struct ReportAnswer {
     answer: u32,
     state: u8,
     crossing: u8,
@@ -109,7 +109,7 @@ struct Fault {
     interface: u32,
     global: u32,
     kind: u8,
-    link: u8,
+    link_down: u8,
     removed: u8,
     refresh: u8,
     has_if_id: u8,
@@ -141,7 +141,7 @@ const _: () = {
     assert!(size_of::<Session>() == 176 && align_of::<Session>() == 8 && offset_of!(Session, settings) == 112);
     assert!(offset_of!(Session, peer) == 160 && offset_of!(Session, state) == 168 && size_of::<Settings>() == 48);
     assert!(size_of::<Condition>() == 24 && offset_of!(Condition, refresh) == 20 && size_of::<Head>() == 16);
-    assert!(size_of::<Report>() == 12 && size_of::<Packet>() == 28 && size_of::<Fault>() == 20);
+    assert!(size_of::<ReportAnswer>() == 12 && size_of::<Packet>() == 28 && size_of::<Fault>() == 20);
     assert!(size_of::<CcRead>() == 32 && size_of::<CvRead>() == 52 && size_of::<FaultRead>() == 24);
     assert!(offset_of!(CvRead, mep) == 36 && offset_of!(CcRead, packet) == 4 && offset_of!(CvRead, packet) == 8);
 };
@@ -162,7 +162,7 @@ extern "C" {
         reading: u64,
     ) -> u32;
     fn korvezul_tick(row: *mut Session, records: usize, head: *mut Head, reading: u64) -> u32;
-    fn korvezul_report(row: *mut Session, records: usize, head: *mut Head, label: u32) -> Report;
+    fn korvezul_report(row: *mut Session, records: usize, head: *mut Head, label: u32) -> ReportAnswer;
     fn korvezul_write_cc(
         row: *mut Session,
         records: usize,
@@ -231,7 +231,7 @@ impl Table {
     fn tick(&mut self, reading: u64) -> u32 {
         unsafe { korvezul_tick(self.row.as_mut_ptr(), RECORDS, &mut self.head, reading) }
     }
-    fn report(&mut self, label: u32) -> Report {
+    fn report(&mut self, label: u32) -> ReportAnswer {
         unsafe { korvezul_report(self.row.as_mut_ptr(), RECORDS, &mut self.head, label) }
     }
     fn write_cc(&mut self, label: u32, buffer: &mut [u8]) -> u32 {
@@ -270,6 +270,29 @@ fn write_fault_message(buffer: &mut [u8], fault: Fault) -> u32 {
     unsafe { korvezul_write_fault_message(buffer.as_mut_ptr(), buffer.len(), fault) }
 }
 
+/// The names of `korvezul_names.h`.
+fn answer_name(answer: u32) -> &'static str {
+    match answer {
+        0 => "accepted",
+        1 => "reading below the clock or too great",
+        2 => "no such session",
+        3 => "message too short",
+        4 => "no G-ACh header",
+        5 => "other channel",
+        6 => "BFD rule broken",
+        7 => "MEP-ID wrong",
+        8 => "fault message wrong",
+        9 => "four conditions stand",
+        10 => "out of range",
+        11 => "label or discriminator taken",
+        12 => "table full",
+        13 => "buffer too short",
+        14 => "session locked",
+        26 => "not a table",
+        _ => "unknown",
+    }
+}
+
 /// One end of the circuit.
 struct End {
     name: char,
@@ -279,7 +302,8 @@ struct End {
 
 impl End {
     fn said(&self, now: u64, call: &str, answer: u32) {
-        println!("{now:9} {} {call}: {answer}", self.name);
+        let why = if answer == 0 { String::new() } else { format!(", {}", answer_name(answer)) };
+        println!("{now:9} {} {call}: {answer}{why}", self.name);
     }
     fn open(&mut self, now: u64, label: u32, discriminator: u32, own: u32, expected: u32) {
         let settings = Settings {
@@ -288,8 +312,8 @@ impl End {
             period: 1000000,
             own: lsp(own),
             expected: lsp(expected),
-            link: 1,
-            lock: 0,
+            follow_link: 1,
+            follow_lock: 0,
         };
         let answer = self.table.open(settings, now);
         self.said(now, &format!("open {label}"), answer);
@@ -366,7 +390,7 @@ fn ais(now: u64, to: &mut End) {
         interface: 4,
         global: 7,
         kind: 1,
-        link: 1,
+        link_down: 1,
         removed: 0,
         refresh: 1,
         has_if_id: 1,
@@ -383,15 +407,22 @@ fn ais(now: u64, to: &mut End) {
 fn check_layout() {
     let own = MepId { kind: 1, global: 0x41424344, node: 0x45464748, local: 0x494a4b4c };
     let expected = MepId { kind: 1, global: 0x51525354, node: 0x55565758, local: 0x595a5b5c };
-    let settings =
-        Settings { label: 0x11121, discriminator: 0x21222324, period: 0x313233, own, expected, link: 1, lock: 0 };
+    let settings = Settings {
+        label: 0x11121,
+        discriminator: 0x21222324,
+        period: 0x313233,
+        own,
+        expected,
+        follow_link: 1,
+        follow_lock: 0,
+    };
     let heard = Packet { my: 0x61626364, diagnostic: 9, state: 1, multiplier: 5, poll: 1, ..Packet::default() };
     let crossed = Packet { your: 1, ..heard };
     let lkr = Fault {
         node: 0x71727374,
         interface: 0x75767778,
         kind: 2,
-        link: 1,
+        link_down: 1,
         refresh: 20,
         has_if_id: 1,
         ..Fault::default()
@@ -404,14 +435,13 @@ fn check_layout() {
     assert_eq!((write_cc_message(&mut m, crossed), t.receive(settings.label, &m, 0x010206)), (0, 0));
     let key = Key { node: lkr.node, interface: lkr.interface, kind: 2, present: 1 };
     let mut conditions = [Condition::default(); 4];
-    conditions[0] = Condition { at: 0x010205, key, refresh: 20, link: 1 };
+    conditions[0] = Condition { at: 0x010205, key, refresh: 20, link_down: 1 };
     let peer = Peer { remote: heard.my, multiplier: 5, diagnostic: 9, owed: 1 };
     assert_eq!(
         t.row[0],
         Session { timed: 0x010204, crossed: 0x010206, conditions, settings, peer, state: 2, crossing: 1 }
     );
     assert_eq!(t.head, Head { clock: 0x010206, occupied: 1 });
-    println!("layout: every field is where the header has it");
 }
 
 /// The fields of a packet, told apart by the octets that they become, and read back from them.
@@ -441,7 +471,7 @@ fn check_fault() {
         node: 0x31323334,
         interface: 0x35363738,
         kind: 2,
-        link: 1,
+        link_down: 1,
         refresh: 20,
         has_if_id: 1,
         ..Fault::default()
@@ -454,7 +484,6 @@ fn check_fault() {
     let ais = Fault { global: 0x393a3b3c, kind: 1, removed: 1, refresh: 5, has_global_id: 1, ..Fault::default() };
     assert_eq!(write_fault_message(&mut o, ais), 0);
     assert_eq!(o[..15], [0x10, 0, 0, 0x58, 0x10, 1, 1, 5, 6, 2, 4, 0x39, 0x3a, 0x3b, 0x3c]);
-    println!("layout: every field of a message becomes its octets");
 }
 
 fn message_refusals(mut cc: [u8; 28], mut p: Packet) {

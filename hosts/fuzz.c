@@ -81,7 +81,7 @@ struct call {
 
 struct said {
     uint32_t answer;
-    struct korvezul_report report;
+    struct korvezul_report_answer report;
 };
 
 static struct said make(struct korvezul_session *row, size_t n, struct korvezul_head *head,
@@ -152,8 +152,8 @@ static struct korvezul_settings settings_of(uint32_t label, const uint8_t *body,
     s.period = (uint32_t)number(body + 4, 4);
     s.own = mep_of((uint16_t)number(body + 8, 2), body + 10);
     s.expected = mep_of((uint16_t)number(body + 8, 2), body + 22);
-    s.link = body[34] & 1;
-    s.lock = body[34] >> 1;
+    s.follow_link = body[34] & 1;
+    s.follow_lock = body[34] >> 1;
     return s;
 }
 
@@ -212,8 +212,8 @@ static struct korvezul_settings some_settings(uint32_t label) {
     s.period = once_in(40) ? (uint32_t)any() : once_in(2) ? 1000 : 1000000;
     s.own = some_mep(kind);
     s.expected = some_mep(kind);
-    s.link = (uint8_t)below(2);
-    s.lock = (uint8_t)below(2);
+    s.follow_link = (uint8_t)below(2);
+    s.follow_lock = (uint8_t)below(2);
     return s;
 }
 
@@ -252,11 +252,16 @@ static struct korvezul_fault some_fault(void) {
     f.interface_number = (uint32_t)below(2);
     f.global = (uint32_t)any();
     f.kind = (uint8_t)(1 + below(once_in(20) ? 3 : 2));
-    f.link = (uint8_t)below(2);
+    f.link_down = (uint8_t)below(2);
     f.removed = (uint8_t)once_in(4);
     f.refresh = (uint8_t)(once_in(20) ? below(256) : 1 + below(20));
     f.has_if_id = (uint8_t)below(2);
     f.has_global_id = (uint8_t)below(once_in(20) ? 256 : 2);
+    /* what is absent has no numbers, or the message is not written */
+    if (f.has_if_id == 0 && !once_in(20))
+        f.node = f.interface_number = 0;
+    if (f.has_global_id == 0 && !once_in(20))
+        f.global = 0;
     return f;
 }
 
@@ -327,7 +332,7 @@ static void record(FILE *to, const struct call *c) {
             put(put(put(end, 4, c->settings.own.global), 4, c->settings.own.node), 4, c->settings.own.local);
         end = put(put(put(end, 4, c->settings.expected.global), 4, c->settings.expected.node), 4,
                   c->settings.expected.local);
-        end = put(end, 1, c->settings.link + 2u * c->settings.lock);
+        end = put(end, 1, c->settings.follow_link + 2u * c->settings.follow_lock);
     }
     if (c->kind == RECEIVE) {
         memcpy(body, c->octets, c->size);

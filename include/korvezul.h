@@ -29,6 +29,14 @@
 extern "C" {
 #endif
 
+/* The version of this header: 0x010000 is 1.0.0. korvezul_version() is the archive's; another major
+ * number is another layout or another meaning, and the two must agree in it. */
+#define KORVEZUL_VERSION_MAJOR 1
+#define KORVEZUL_VERSION_MINOR 0
+#define KORVEZUL_VERSION_PATCH 0
+#define KORVEZUL_VERSION \
+    (KORVEZUL_VERSION_MAJOR * 0x10000 + KORVEZUL_VERSION_MINOR * 0x100 + KORVEZUL_VERSION_PATCH)
+
 /* The records of a row, and the octets of the messages that a session writes. */
 #define KORVEZUL_RECORDS 64
 #define KORVEZUL_CC_OCTETS 28
@@ -80,8 +88,8 @@ struct korvezul_settings {
     uint32_t period;
     struct korvezul_mep_id own;
     struct korvezul_mep_id expected;
-    uint8_t link;
-    uint8_t lock;
+    uint8_t follow_link;
+    uint8_t follow_lock;
 };
 
 /* The record of a session. It is the host's memory and the library's content: read a session with
@@ -97,7 +105,7 @@ struct korvezul_condition {
     uint64_t at;
     struct korvezul_key key;
     uint8_t refresh;
-    uint8_t link;
+    uint8_t link_down;
 };
 
 struct korvezul_peer {
@@ -126,7 +134,7 @@ struct korvezul_head {
 /* A report: 0 and seven numbers, or a refusal and seven noughts. `state` is a korvezul_state,
  * `conditions` a count up to 4, the others are 0 or 1. Traffic is to be blocked while `blocked` is
  * 1. A held-back alarm is loss 1 and alarm 0. */
-struct korvezul_report {
+struct korvezul_report_answer {
     uint32_t answer;
     uint8_t state;
     uint8_t crossing;
@@ -153,15 +161,15 @@ struct korvezul_packet {
     uint8_t demand;
 };
 
-/* The fields of a fault message: kind 1 AIS, 2 LKR; the flags L (link) and R (removed) 0 or 1;
+/* The fields of a fault message: kind 1 AIS, 2 LKR; the flags L (link-down) and R (removed) 0 or 1;
  * refresh 1 to 20 seconds; and 1 or 0 for an IF_ID and a Global_ID that are there or not. Numbers
- * behind a 0 are 0 when read and are not looked at when written. */
+ * behind a 0 are 0 when read and must be 0 when written: they would be lost (10). */
 struct korvezul_fault {
     uint32_t node;
     uint32_t interface_number;
     uint32_t global;
     uint8_t kind;
-    uint8_t link;
+    uint8_t link_down;
     uint8_t removed;
     uint8_t refresh;
     uint8_t has_if_id;
@@ -187,6 +195,9 @@ struct korvezul_fault_read {
     uint32_t answer;
     struct korvezul_fault fault;
 };
+
+/* The version of the archive, to be compared with KORVEZUL_VERSION. */
+uint32_t korvezul_version(void);
 
 /* The table. `records` is the number of records of the row: 64, or the answer is KORVEZUL_TABLE. */
 
@@ -217,8 +228,8 @@ uint32_t korvezul_tick(struct korvezul_session *row, size_t records, struct korv
                        uint64_t reading);
 
 /* The report on a label at the clock. Nothing changes. 26, 2. */
-struct korvezul_report korvezul_report(struct korvezul_session *row, size_t records,
-                                       struct korvezul_head *head, uint32_t label);
+struct korvezul_report_answer korvezul_report(struct korvezul_session *row, size_t records,
+                                              struct korvezul_head *head, uint32_t label);
 
 /* Writes the CC (28 octets) or the CV (44) that the session of a label is to send, at the clock, to
  * the front of a buffer of `size` octets; what lies behind is not touched. 26, 2, 13. */
@@ -267,8 +278,8 @@ KORVEZUL_PLACE(settings, discriminator, 4);
 KORVEZUL_PLACE(settings, period, 8);
 KORVEZUL_PLACE(settings, own, 12);
 KORVEZUL_PLACE(settings, expected, 28);
-KORVEZUL_PLACE(settings, link, 44);
-KORVEZUL_PLACE(settings, lock, 45);
+KORVEZUL_PLACE(settings, follow_link, 44);
+KORVEZUL_PLACE(settings, follow_lock, 45);
 
 KORVEZUL_SIZE(key, 12);
 KORVEZUL_ALIGNED(key, 4);
@@ -282,7 +293,7 @@ KORVEZUL_ALIGNED(condition, 8);
 KORVEZUL_PLACE(condition, at, 0);
 KORVEZUL_PLACE(condition, key, 8);
 KORVEZUL_PLACE(condition, refresh, 20);
-KORVEZUL_PLACE(condition, link, 21);
+KORVEZUL_PLACE(condition, link_down, 21);
 
 KORVEZUL_SIZE(peer, 8);
 KORVEZUL_ALIGNED(peer, 4);
@@ -306,16 +317,16 @@ KORVEZUL_ALIGNED(head, 8);
 KORVEZUL_PLACE(head, clock, 0);
 KORVEZUL_PLACE(head, occupied, 8);
 
-KORVEZUL_SIZE(report, 12);
-KORVEZUL_ALIGNED(report, 4);
-KORVEZUL_PLACE(report, answer, 0);
-KORVEZUL_PLACE(report, state, 4);
-KORVEZUL_PLACE(report, crossing, 5);
-KORVEZUL_PLACE(report, loss, 6);
-KORVEZUL_PLACE(report, alarm, 7);
-KORVEZUL_PLACE(report, rdi, 8);
-KORVEZUL_PLACE(report, blocked, 9);
-KORVEZUL_PLACE(report, conditions, 10);
+KORVEZUL_SIZE(report_answer, 12);
+KORVEZUL_ALIGNED(report_answer, 4);
+KORVEZUL_PLACE(report_answer, answer, 0);
+KORVEZUL_PLACE(report_answer, state, 4);
+KORVEZUL_PLACE(report_answer, crossing, 5);
+KORVEZUL_PLACE(report_answer, loss, 6);
+KORVEZUL_PLACE(report_answer, alarm, 7);
+KORVEZUL_PLACE(report_answer, rdi, 8);
+KORVEZUL_PLACE(report_answer, blocked, 9);
+KORVEZUL_PLACE(report_answer, conditions, 10);
 
 KORVEZUL_SIZE(packet, 28);
 KORVEZUL_ALIGNED(packet, 4);
@@ -338,7 +349,7 @@ KORVEZUL_PLACE(fault, node, 0);
 KORVEZUL_PLACE(fault, interface_number, 4);
 KORVEZUL_PLACE(fault, global, 8);
 KORVEZUL_PLACE(fault, kind, 12);
-KORVEZUL_PLACE(fault, link, 13);
+KORVEZUL_PLACE(fault, link_down, 13);
 KORVEZUL_PLACE(fault, removed, 14);
 KORVEZUL_PLACE(fault, refresh, 15);
 KORVEZUL_PLACE(fault, has_if_id, 16);

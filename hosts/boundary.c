@@ -1,0 +1,316 @@
+/*
+ * What crosses between a host and the library, held to this header from outside: the version, every
+ * field of a record and of a message at its place, each mark and each number that a writer must
+ * refuse, and rows of another length lent to each call. hosts/run compares what is printed with
+ * hosts/timeline-boundary.
+ */
+#include <inttypes.h>
+#include <stdio.h>
+#include <stdlib.h>
+#include <string.h>
+
+#include "korvezul_names.h"
+
+static void need(int holds, const char *what) {
+    if (!holds) {
+        printf("boundary: %s is not as this header has it\n", what);
+        exit(1);
+    }
+}
+
+static void check_version(void) {
+    need(KORVEZUL_VERSION == 0x010000, "version of the header");
+    need(korvezul_version() == KORVEZUL_VERSION, "version of the library");
+    printf("version %d.%d.%d: header and library agree\n", KORVEZUL_VERSION_MAJOR, KORVEZUL_VERSION_MINOR,
+           KORVEZUL_VERSION_PATCH);
+}
+
+/* Every field of a record, as the library stored it, read through the header: a session that is
+ * opened, hears a CC, takes an LKR and is crossed, with values that tell the fields apart. */
+static struct korvezul_session row[KORVEZUL_RECORDS];
+static struct korvezul_head head;
+static const struct korvezul_settings told = {0x11121,
+                                              0x21222324,
+                                              0x313233,
+                                              {1, 0x41424344, 0x45464748, 0x494a4b4c},
+                                              {1, 0x51525354, 0x55565758, 0x595a5b5c},
+                                              1,
+                                              0};
+
+static void check_opened(void) {
+    memset(row, 0xa5, sizeof row);
+    need(korvezul_empty(row, KORVEZUL_RECORDS, &head) == 0, "empty");
+    need(korvezul_open(row, KORVEZUL_RECORDS, &head, told, 0x010203) == 0, "open");
+    need(head.clock == 0x010203 && head.occupied == 1, "head");
+    need(memcmp(&row[0].settings, &told, offsetof(struct korvezul_settings, follow_lock) + 1) == 0,
+         "settings");
+    need(row[0].timed == 0x010203 && row[0].state == 1 && row[0].crossing == 0, "timed, state, crossing");
+    need(row[0].peer.remote == 0 && row[0].peer.multiplier == 3, "peer of a new session");
+    need(((const unsigned char *)&row[1])[0] == 0xa5, "a record next to it");
+}
+
+static void check_heard(struct korvezul_packet p) {
+    const struct korvezul_peer *peer = &row[0].peer;
+    uint8_t m[KORVEZUL_CC_OCTETS];
+    need(korvezul_write_cc_message(m, sizeof m, p) == 0, "CC");
+    need(korvezul_receive(row, KORVEZUL_RECORDS, &head, told.label, m, sizeof m, 0x010204) == 0, "heard CC");
+    need(row[0].timed == 0x010204 && row[0].state == 2, "timed, state of one that heard");
+    need(peer->remote == p.my && peer->multiplier == 5 && peer->diagnostic == 9 && peer->owed == 1, "peer");
+}
+
+static void check_taken(struct korvezul_fault f) {
+    const struct korvezul_condition *c = row[0].conditions;
+    uint8_t m[KORVEZUL_FAULT_OCTETS];
+    need(korvezul_write_fault_message(m, 19, f) == 0, "LKR");
+    need(korvezul_receive(row, KORVEZUL_RECORDS, &head, told.label, m, 19, 0x010205) == 0, "taken LKR");
+    need(c[0].at == 0x010205 && c[0].refresh == 20 && c[0].link_down == 1, "condition");
+    need(c[0].key.node == f.node && c[0].key.interface_number == f.interface_number, "IF_ID of a key");
+    need(c[0].key.kind == 2 && c[0].key.present == 1, "type and mark of a key");
+    need(c[1].key.kind == 0 && c[3].key.kind == 0, "empty conditions");
+}
+
+static void check_layout(void) {
+    struct korvezul_packet p = {.my = 0x61626364, .diagnostic = 9, .state = 1, .multiplier = 5, .poll = 1};
+    struct korvezul_fault f = {0x71727374, 0x75767778, 0, 2, 1, 0, 20, 1, 0};
+    uint8_t m[KORVEZUL_CC_OCTETS];
+    check_opened();
+    check_heard(p);
+    check_taken(f);
+    p.your = 1;
+    need(korvezul_write_cc_message(m, sizeof m, p) == 0, "crossed CC");
+    need(korvezul_receive(row, KORVEZUL_RECORDS, &head, told.label, m, sizeof m, 0x010206) == 0,
+         "crossed CC taken");
+    need(row[0].crossed == 0x010206 && row[0].crossing == 1, "crossed, crossing");
+    printf("every field of a record is where the header has it\n");
+}
+
+/* Every field of a message, told apart by the octets that it becomes, and read back from them. */
+static void check_octets(void) {
+    static const uint8_t cv_octets[] = {0x10, 0,    0,    0x23, 0x3f, 0xa8, 0x15, 0x18, 0x01, 0x02, 0x03,
+                                        0x04, 0x05, 0x06, 0x07, 0x08, 0x09, 0x0a, 0x0b, 0x0c, 0x0d, 0x0e,
+                                        0x0f, 0x10, 0x11, 0x12, 0x13, 0x14, 0,    1,    0,    0x0c, 0x21,
+                                        0x22, 0x23, 0x24, 0x25, 0x26, 0x27, 0x28, 0x29, 0x2a, 0x2b, 0x2c};
+    static const uint8_t fault_octets[] = {0x10, 0,    0,    0x58, 0x10, 2,    2,    0x14, 0x0a, 1,
+                                           8,    0x31, 0x32, 0x33, 0x34, 0x35, 0x36, 0x37, 0x38};
+    static const uint8_t removed_octets[] = {0x10, 0, 0, 0x58, 0x10, 1,    1,   0x05,
+                                             0x06, 2, 4, 0x39, 0x3a, 0x3b, 0x3c};
+    struct korvezul_packet p = {0x01020304, 0x05060708, 0x090a0b0c, 0x0d0e0f10, 0x11121314, 0x1f,
+                                2,          0x15,       1,          0,          1,          0};
+    struct korvezul_mep_id id = {1, 0x21222324, 0x25262728, 0x292a2b2c};
+    struct korvezul_fault f = {0x31323334, 0x35363738, 0, 2, 1, 0, 0x14, 1, 0},
+                          r = {0, 0, 0x393a3b3c, 1, 0, 1, 5, 0, 1};
+    struct korvezul_cv_read v = korvezul_read_cv(cv_octets, sizeof cv_octets);
+    struct korvezul_fault_read w = korvezul_read_fault(fault_octets, sizeof fault_octets);
+    uint8_t m[KORVEZUL_CV_OCTETS];
+    need(korvezul_write_cv_message(m, sizeof m, p, id) == 0 && memcmp(m, cv_octets, 44) == 0, "CV written");
+    need(v.answer == 0 && v.part == 28 &&
+             memcmp(&v.packet, &p, offsetof(struct korvezul_packet, demand) + 1) == 0,
+         "packet read");
+    need(v.mep.kind == 1 && v.mep.global == id.global && v.mep.node == id.node && v.mep.local == id.local,
+         "MEP-ID read");
+    need(korvezul_write_fault_message(m, 19, f) == 0 && memcmp(m, fault_octets, 19) == 0, "LKR written");
+    need(w.answer == 0 && memcmp(&w.fault, &f, offsetof(struct korvezul_fault, has_global_id) + 1) == 0,
+         "LKR read");
+    need(korvezul_write_fault_message(m, 15, r) == 0 && memcmp(m, removed_octets, 15) == 0, "AIS written");
+    p.state = 3;
+    p.poll = p.independent = 0;
+    p.final = p.demand = 1;
+    need(korvezul_write_cc_message(m, sizeof m, p) == 0 && m[5] == 0xd2, "F and D");
+    printf("every field of a message becomes its octets, and reads back\n");
+}
+
+static void print_octets(const char *name, uint32_t answer, const uint8_t *o, size_t n) {
+    printf("%s: %" PRIu32 "\n           ", name, answer);
+    for (size_t i = 0; i < n; i++)
+        printf("%02x", o[i]);
+    printf("\n");
+}
+
+/* A message with another value in each field, named: two fields that change places are other octets
+ * than those stored. */
+static void written(void) {
+    struct korvezul_packet p = {.my = 0x01020304,
+                                .your = 0x05060708,
+                                .transmit = 0x090a0b0c,
+                                .receive = 0x0d0e0f10,
+                                .echo = 0x11121314,
+                                .diagnostic = 0x1f,
+                                .state = 2,
+                                .multiplier = 0x15};
+    struct korvezul_mep_id section = {
+        .kind = 0, .global = 0x21222324, .node = 0x25262728, .local = 0x292a2b2c};
+    struct korvezul_fault f = {.node = 0x31323334,
+                               .interface_number = 0x35363738,
+                               .global = 0x393a3b3c,
+                               .kind = 1,
+                               .refresh = 20,
+                               .has_if_id = 1,
+                               .has_global_id = 1};
+    uint8_t *const flags[] = {&p.poll, &p.final, &p.independent, &p.demand};
+    static const char *const names[] = {"CC with P", "CC with F", "CC with C", "CC with D"};
+    uint8_t m[KORVEZUL_CV_OCTETS];
+    for (size_t i = 0; i < 4; i++) {
+        *flags[i] = 1;
+        print_octets(names[i], korvezul_write_cc_message(m, sizeof m, p), m, KORVEZUL_CC_OCTETS);
+        *flags[i] = 0;
+    }
+    print_octets("CV of a Section", korvezul_write_cv_message(m, sizeof m, p, section), m,
+                 KORVEZUL_CV_OCTETS);
+    f.link_down = 1;
+    print_octets("AIS with L", korvezul_write_fault_message(m, sizeof m, f), m, KORVEZUL_FAULT_OCTETS);
+    f.link_down = 0;
+    f.removed = 1;
+    print_octets("AIS with R", korvezul_write_fault_message(m, sizeof m, f), m, KORVEZUL_FAULT_OCTETS);
+}
+
+/* A writer's answer, and whether it left the buffer as it was: a refusal must. */
+static uint8_t buffer[KORVEZUL_CV_OCTETS];
+
+static uint32_t held(uint32_t answer) {
+    for (size_t i = 0; answer != KORVEZUL_ACCEPTED && i < sizeof buffer; i++)
+        need(buffer[i] == 0xa5, "an octet of a buffer beside a refusal");
+    memset(buffer, 0xa5, sizeof buffer);
+    return answer;
+}
+
+static struct korvezul_packet packet = {.my = 17, .your = 34, .state = 3, .multiplier = 3};
+static struct korvezul_mep_id mep = {.kind = 1};
+static struct korvezul_fault fault = {.kind = 1, .refresh = 1};
+
+static uint32_t cc(void) { return held(korvezul_write_cc_message(buffer, sizeof buffer, packet)); }
+static uint32_t cv(void) { return held(korvezul_write_cv_message(buffer, sizeof buffer, packet, mep)); }
+static uint32_t ais(void) { return held(korvezul_write_fault_message(buffer, sizeof buffer, fault)); }
+
+/* The answers to a mark of 0, 1, 2, 3 and 255. */
+static void mark(uint32_t (*writer)(void), const char *name, uint8_t *at) {
+    static const uint8_t values[] = {0, 1, 2, 3, 255};
+    printf("%s of 0, 1, 2, 3, 255:", name);
+    for (size_t i = 0; i < sizeof values; i++) {
+        *at = values[i];
+        printf(" %" PRIu32, writer());
+    }
+    *at = 0;
+    printf("\n");
+}
+
+static void marks(void) {
+    mark(cc, "CC, P", &packet.poll);
+    mark(cc, "CC, F", &packet.final);
+    mark(cc, "CC, C", &packet.independent);
+    mark(cc, "CC, D", &packet.demand);
+    mark(cv, "CV, P", &packet.poll);
+    mark(cv, "CV, F", &packet.final);
+    mark(cv, "CV, C", &packet.independent);
+    mark(cv, "CV, D", &packet.demand);
+    mark(ais, "AIS, L", &fault.link_down);
+    mark(ais, "AIS, R", &fault.removed);
+    mark(ais, "AIS, IF_ID", &fault.has_if_id);
+    mark(ais, "AIS, Global_ID", &fault.has_global_id);
+}
+
+/* A number behind an absent IF_ID or Global_ID, and behind one that is there. */
+static void behind(const char *name, uint32_t *number, uint8_t *present) {
+    *number = 1;
+    printf("%s of 1, absent and present: %" PRIu32, name, ais());
+    *present = 1;
+    printf(" %" PRIu32 "\n", ais());
+    *number = 0;
+    *present = 0;
+}
+
+static void absent(void) {
+    behind("Node", &fault.node, &fault.has_if_id);
+    behind("Interface", &fault.interface_number, &fault.has_if_id);
+    behind("Global_ID", &fault.global, &fault.has_global_id);
+}
+
+/* The ten calls, each accepted on the table of `kept`, a session of label 100 and its CC. */
+struct table {
+    struct korvezul_session row[KORVEZUL_RECORDS + 1];
+    struct korvezul_head head;
+    uint8_t buffer[KORVEZUL_CV_OCTETS];
+};
+
+static struct table kept, lent;
+static const struct korvezul_settings other = {101, 18, 1000000, {1, 7, 10, 1}, {1, 7, 20, 1}, 0, 0};
+static uint8_t message[KORVEZUL_CC_OCTETS];
+
+#define LENT(records) lent.row, records, &lent.head
+static uint32_t empty(size_t n) { return korvezul_empty(LENT(n)); }
+static uint32_t tick(size_t n) { return korvezul_tick(LENT(n), 1); }
+static uint32_t open_other(size_t n) { return korvezul_open(LENT(n), other, 1); }
+static uint32_t close_it(size_t n) { return korvezul_close(LENT(n), 100, 1); }
+static uint32_t lock(size_t n) { return korvezul_lock(LENT(n), 100, 1); }
+static uint32_t unlock(size_t n) { return korvezul_unlock(LENT(n), 100, 1); }
+static uint32_t receive(size_t n) { return korvezul_receive(LENT(n), 100, message, sizeof message, 1); }
+static uint32_t report(size_t n) { return korvezul_report(LENT(n), 100).answer; }
+static uint32_t write_cc(size_t n) {
+    return korvezul_write_cc(LENT(n), 100, lent.buffer, sizeof lent.buffer);
+}
+static uint32_t write_cv(size_t n) {
+    return korvezul_write_cv(LENT(n), 100, lent.buffer, sizeof lent.buffer);
+}
+
+static const struct {
+    const char *name;
+    uint32_t (*call)(size_t);
+} calls[] = {{"empty", empty},       {"tick", tick},        {"open", open_other}, {"close", close_it},
+             {"lock", lock},         {"unlock", unlock},    {"receive", receive}, {"report", report},
+             {"write CC", write_cc}, {"write CV", write_cv}};
+
+static void prepare(void) {
+    struct korvezul_settings s = other;
+    s.label = 100;
+    s.discriminator = 17;
+    memset(&kept, 0xa5, sizeof kept);
+    need(korvezul_empty(kept.row, KORVEZUL_RECORDS, &kept.head) == 0, "empty");
+    need(korvezul_open(kept.row, KORVEZUL_RECORDS, &kept.head, s, 0) == 0, "open");
+    packet.your = s.discriminator;
+    need(korvezul_write_cc_message(message, sizeof message, packet) == 0, "CC");
+}
+
+/* Each call on a row of another length is answered 26 and changes no byte; of 64 it is accepted. */
+static void rows(void) {
+    static const size_t lengths[] = {0, KORVEZUL_RECORDS - 1, KORVEZUL_RECORDS + 1, KORVEZUL_RECORDS};
+    prepare();
+    for (size_t k = 0; k < sizeof calls / sizeof *calls; k++) {
+        printf("%s on a row of 0, 63, 65, 64:", calls[k].name);
+        for (size_t i = 0; i < sizeof lengths / sizeof *lengths; i++) {
+            uint32_t answer;
+            memcpy(&lent, &kept, sizeof kept);
+            answer = calls[k].call(lengths[i]);
+            printf(" %" PRIu32, answer);
+            need(answer == KORVEZUL_ACCEPTED || memcmp(&lent, &kept, sizeof kept) == 0,
+                 "a byte beside a refusal");
+        }
+        printf("\n");
+    }
+}
+
+/* Each number from 0 to 27 that has a name. */
+static void names(void) {
+    for (uint32_t i = 0; i <= 27; i++)
+        if (strcmp(korvezul_answer_name(i), "unknown") != 0)
+            printf("%" PRIu32 " %s\n", i, korvezul_answer_name(i));
+    for (uint32_t i = 0; i <= 4; i++)
+        printf("state %" PRIu32 " %s\n", i, korvezul_state_name(i));
+}
+
+static void headline(const char *text) { printf("-- %s\n", text); }
+
+int main(void) {
+    check_version();
+    check_layout();
+    check_octets();
+    headline("each field in its own octets");
+    written();
+    headline("marks of the writers");
+    marks();
+    headline("numbers behind what is absent");
+    absent();
+    headline("rows of another length");
+    rows();
+    headline("names");
+    names();
+    return 0;
+}

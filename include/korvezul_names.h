@@ -1,0 +1,42 @@
+/*
+ * Names for the answers and states of korvezul.h, for logs and screens: the words of its comments,
+ * short. A number that is no answer, or no state, is "unknown".
+ */
+#ifndef KORVEZUL_NAMES_H
+#define KORVEZUL_NAMES_H
+
+#include "korvezul.h"
+
+static inline const char *korvezul_answer_name(uint32_t answer) {
+    switch (answer) {
+    case KORVEZUL_ACCEPTED: return "accepted";
+    case KORVEZUL_READING: return "reading below the clock or too great";
+    case KORVEZUL_NO_SESSION: return "no such session";
+    case KORVEZUL_SHORT: return "message too short";
+    case KORVEZUL_HEADER: return "no G-ACh header";
+    case KORVEZUL_CHANNEL: return "other channel";
+    case KORVEZUL_BFD: return "BFD rule broken";
+    case KORVEZUL_MEP_ID: return "MEP-ID wrong";
+    case KORVEZUL_FAULT: return "fault message wrong";
+    case KORVEZUL_CONDITIONS: return "four conditions stand";
+    case KORVEZUL_RANGE: return "out of range";
+    case KORVEZUL_TAKEN: return "label or discriminator taken";
+    case KORVEZUL_FULL: return "table full";
+    case KORVEZUL_BUFFER: return "buffer too short";
+    case KORVEZUL_LOCKED: return "session locked";
+    case KORVEZUL_TABLE: return "not a table";
+    default: return "unknown";
+    }
+}
+
+static inline const char *korvezul_state_name(uint32_t state) {
+    switch (state) {
+    case KORVEZUL_ADMIN_DOWN: return "ADMIN DOWN";
+    case KORVEZUL_DOWN: return "DOWN";
+    case KORVEZUL_INIT: return "INIT";
+    case KORVEZUL_UP: return "UP";
+    default: return "unknown";
+    }
+}
+
+#endif
