@@ -250,6 +250,10 @@ static void refusals(void) {
 }
 
 int main(void) {
+    if (korvezul_version() != KORVEZUL_VERSION) {
+        printf("header and library are of two versions\n");
+        return 1;
+    }
     come_up();
     cross();
     cut();

@@ -4,6 +4,8 @@
 use std::mem::{align_of, offset_of, size_of};
 
 const RECORDS: usize = 64;
+/// The version of the header that these declarations follow, 1.0.0.
+const VERSION: u32 = 0x010000;
 
 #[repr(C)]
 #[derive(Clone, Copy, Debug, Default, PartialEq)]
@@ -147,6 +149,7 @@ const _: () = {
 };
 
 extern "C" {
+    fn korvezul_version() -> u32;
     fn korvezul_empty(row: *const Session, records: usize, head: *mut Head) -> u32;
     fn korvezul_open(row: *mut Session, records: usize, head: *mut Head, settings: Settings, reading: u64) -> u32;
     fn korvezul_close(row: *mut Session, records: usize, head: *mut Head, label: u32, reading: u64) -> u32;
@@ -618,6 +621,7 @@ fn refusals(a: &mut End) {
 }
 
 fn main() {
+    assert_eq!(unsafe { korvezul_version() }, VERSION);
     check_layout();
     check_packet();
     check_fault();
