@@ -465,6 +465,29 @@ static void look_at_message(const struct lender *lent) {
     must(memcmp(o, m, n) == 0, "a message that was lent to be read changes");
 }
 
+/* Fields that are written read back to the same fields, every one of them. */
+static void look_at_fields(void) {
+    struct korvezul_packet p = some_packet();
+    struct korvezul_mep_id id = some_mep((uint16_t)below(3));
+    struct korvezul_fault f = some_fault();
+    uint8_t m[KORVEZUL_CV_OCTETS];
+    at_fault = NULL;
+    if (korvezul_write_cc_message(m, sizeof m, p) == 0) {
+        struct korvezul_cc_read r = korvezul_read_cc(m, sizeof m);
+        must(r.answer == 0 && memcmp(&r.packet, &p, 27) == 0, "fields of a CC are lost");
+    }
+    if (korvezul_write_cv_message(m, sizeof m, p, id) == 0) {
+        struct korvezul_cv_read r = korvezul_read_cv(m, sizeof m);
+        must(r.answer == 0 && memcmp(&r.packet, &p, 27) == 0 && r.mep.kind == id.kind &&
+                 r.mep.global == id.global && r.mep.node == id.node && r.mep.local == id.local,
+             "fields of a CV are lost");
+    }
+    if (korvezul_write_fault_message(m, sizeof m, f) == 0) {
+        struct korvezul_fault_read r = korvezul_read_fault(m, sizeof m);
+        must(r.answer == 0 && memcmp(&r.fault, &f, 18) == 0, "fields of a fault message are lost");
+    }
+}
+
 /* A table that is lent: any bytes, or one that calls made with a few bytes damaged. */
 static void some_table(const struct table *base, struct korvezul_session *row, size_t size,
                        struct korvezul_head *head) {
@@ -547,6 +570,7 @@ static int at_random(double seconds) {
             c.kind = EMPTY;
         counts[c.kind][tried(row, n, head, &c)]++;
         look_at_message(&lent);
+        look_at_fields();
     }
     print_counts(counts);
     printf("messages: %" PRIu64 "\n", messages);
