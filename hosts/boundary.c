@@ -176,18 +176,24 @@ static uint32_t held(uint32_t answer) {
 static struct korvezul_packet packet = {.my = 17, .your = 34, .state = 3, .multiplier = 3};
 static struct korvezul_mep_id mep = {.kind = 1};
 static struct korvezul_fault fault = {.kind = 1, .refresh = 1};
+static struct korvezul_settings settings = {.label = 100, .discriminator = 17, .period = 1000000};
 
 static uint32_t cc(void) { return held(korvezul_write_cc_message(buffer, sizeof buffer, packet)); }
 static uint32_t cv(void) { return held(korvezul_write_cv_message(buffer, sizeof buffer, packet, mep)); }
 static uint32_t ais(void) { return held(korvezul_write_fault_message(buffer, sizeof buffer, fault)); }
 
+static uint32_t opening(void) {
+    need(korvezul_empty(row, KORVEZUL_RECORDS, &head) == 0, "empty");
+    return korvezul_open(row, KORVEZUL_RECORDS, &head, settings, 0);
+}
+
 /* The answers to a mark of 0, 1, 2, 3 and 255. */
-static void mark(uint32_t (*writer)(void), const char *name, uint8_t *at) {
+static void mark(uint32_t (*call)(void), const char *name, uint8_t *at) {
     static const uint8_t values[] = {0, 1, 2, 3, 255};
     printf("%s of 0, 1, 2, 3, 255:", name);
     for (size_t i = 0; i < sizeof values; i++) {
         *at = values[i];
-        printf(" %" PRIu32, writer());
+        printf(" %" PRIu32, call());
     }
     *at = 0;
     printf("\n");
@@ -206,6 +212,8 @@ static void marks(void) {
     mark(ais, "AIS, R", &fault.removed);
     mark(ais, "AIS, IF_ID", &fault.has_if_id);
     mark(ais, "AIS, Global_ID", &fault.has_global_id);
+    mark(opening, "open, follow link-down", &settings.follow_link);
+    mark(opening, "open, follow lock", &settings.follow_lock);
 }
 
 /* A number behind an absent IF_ID or Global_ID, and behind one that is there. */
@@ -304,7 +312,7 @@ int main(void) {
     check_octets();
     headline("each field in its own octets");
     written();
-    headline("marks of the writers");
+    headline("marks");
     marks();
     headline("numbers behind what is absent");
     absent();
