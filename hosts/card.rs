@@ -489,6 +489,35 @@ fn check_fault() {
     assert_eq!(o[..15], [0x10, 0, 0, 0x58, 0x10, 1, 1, 5, 6, 2, 4, 0x39, 0x3a, 0x3b, 0x3c]);
 }
 
+/// A row of another length: each call answers 26, and row, head and buffer stay as they are.
+fn check_rows() {
+    let settings = Settings { label: 100, discriminator: 17, period: 1000000, ..Settings::default() };
+    let other = Settings { label: 101, discriminator: 18, ..settings };
+    let mut table = Table::new();
+    assert_eq!((table.empty(), table.open(settings, 0)), (0, 0));
+    let kept = [table.row.as_slice(), &[Session::default()]].concat();
+    for records in [0, RECORDS - 1, RECORDS + 1] {
+        let (mut row, mut head, mut buffer) = (kept.clone(), table.head, [0xa5; 44]);
+        let (r, h, b) = (row.as_mut_ptr(), &mut head as *mut Head, buffer.as_mut_ptr());
+        let answers = unsafe {
+            [
+                korvezul_empty(r, records, h),
+                korvezul_tick(r, records, h, 1),
+                korvezul_open(r, records, h, other, 1),
+                korvezul_close(r, records, h, 100, 1),
+                korvezul_lock(r, records, h, 100, 1),
+                korvezul_unlock(r, records, h, 100, 1),
+                korvezul_receive(r, records, h, 100, b, 44, 1),
+                korvezul_report(r, records, h, 100).answer,
+                korvezul_write_cc(r, records, h, 100, b, 44),
+                korvezul_write_cv(r, records, h, 100, b, 44),
+            ]
+        };
+        assert_eq!(answers, [26; 10]);
+        assert!(row == kept && head == table.head && buffer == [0xa5; 44]);
+    }
+}
+
 fn message_refusals(mut cc: [u8; 28], mut p: Packet) {
     let r = read_cc(&cc[..27]);
     println!(
@@ -625,6 +654,7 @@ fn main() {
     check_layout();
     check_packet();
     check_fault();
+    check_rows();
     let mut a = End { name: 'A', table: Table::new(), label: 100 };
     let mut b = End { name: 'B', table: Table::new(), label: 200 };
     come_up(&mut a, &mut b);
