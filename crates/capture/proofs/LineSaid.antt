@@ -19,7 +19,8 @@ use Rattle.step.specs.declared.Outcome.{Outcome}
 use Rattle.step.specs.Requests.{requestOf}
 use Rattle.step.specs.Stepping.{tableOf, rowStep}
 use Rattle.step.proofs.TableStep.{saidOf, step-said, cc-length, cv-length}
-use Rattle.capture.specs.Lines.{line, lineFor}
+use Rattle.capture.specs.Lines.{line}
+use Rattle.capture.specs.Typing.{lineFor}
 
 -- a lent buffer has the length of what is written into it
 abbrev pub ExactAct : Act → Type 0

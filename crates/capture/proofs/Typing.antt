@@ -25,7 +25,8 @@ use Rattle.step.specs.declared.Request.{Request}
 use Rattle.step.specs.declared.Request.the-variants.{Tick, Open, Close, Lock, Unlock, Receive, ReportOn, WriteCc, WriteCv}
 use Rattle.step.specs.declared.Outcome.{Outcome}
 use Rattle.step.proofs.TableStep.{cc-length, cv-length}
-use Rattle.capture.specs.Lines.{digits, decimal, hexDigit, hex, spaced, sevenNumbers, requestText, lineFor, Put, pushed, typed}
+use Rattle.capture.specs.Lines.{digits, decimal, hexDigit, hex, spaced, sevenNumbers}
+use Rattle.capture.specs.Typing.{requestText, lineFor, Put, pushed, typed}
 
 -- ---- a text in parts
 pub typed-join : (xs ys : List ℕ) (p : Put) → typed p (xs ++ ys) ≡ typed (typed p xs) ys

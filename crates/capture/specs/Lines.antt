@@ -1,16 +1,11 @@
--- The line that `watch` prints for an answer, as octets; and octets put one behind the other into a lent buffer.
+-- The line that `watch` prints for an answer, as octets, and its number.
 -- Assumes nothing.
 use Prim.Native.Nat.{ℕ, zero, suc, _+_, _/_, _%_}
 use mathlib.Core.Bool.{cond}
 use mathlib.Core.List.{List, [], _∷_, _++_}
 use lib.Dec.{eqb, ltb}
-use lib.ListN.{length, set}
 use Rattle.rules.specs.declared.Report.{Report}
 use Rattle.rules.specs.Calls.{Act, Close, Lock, Unlock, Receive, ReportOn, WriteCc, WriteCv, Call, Tick, Open, On, Said}
-use Rattle.session.specs.Queries.{reportAt, ccOctetsAt, cvOctetsAt}
-use Rattle.step.specs.declared.Outcome.{Outcome}
-use Rattle.step.specs.declared.Request.{Request}
-use Rattle.step.specs.declared.Request.the-variants as R
 
 -- a number in decimal, of at most k digits
 unfoldable pub digits : ℕ → ℕ → List ℕ
@@ -56,30 +51,6 @@ callText (On l act) a = actText act a
 unfoldable pub line : ℕ → Call → Said → List ℕ
 line number c a = decimal number ++ spaced (a .number) ++ cond (eqb (a .number) 0) (callText c a) [] ++ 10 ∷ []
 
--- the same from the outcome of a request
-abbrev pub requestText : Request → Outcome → List ℕ
-requestText (R.Tick u) o = []
-requestText (R.Open g u) o = []
-requestText (R.Close l u) o = []
-requestText (R.Lock l u) o = []
-requestText (R.Unlock l u) o = []
-requestText (R.Receive l m u) o = []
-requestText (R.ReportOn l) o = sevenNumbers (reportAt (o .before) (o .head .clock))
-requestText (R.WriteCc l n) o = 32 ∷ hex (ccOctetsAt (o .before) (o .head .clock))
-requestText (R.WriteCv l n) o = 32 ∷ hex (cvOctetsAt (o .before) (o .head .clock))
-
-unfoldable pub lineFor : ℕ → Request → Outcome → List ℕ
-lineFor number q o = decimal number ++ spaced (o .answer) ++ cond (eqb (o .answer) 0) (requestText q o) [] ++ 10 ∷ []
-
--- a buffer, and the place behind what was put into it
-pub record Put : Type 0 where
-  pub buffer : List ℕ
-  pub at : ℕ
-
--- one octet more; at the buffer's end nothing is put
-unfoldable pub pushed : Put → ℕ → Put
-pushed p b = cond (ltb (p .at) (length (p .buffer))) (record { buffer = set (p .buffer) (p .at) b; at = p .at + 1 }) p
-
-unfoldable pub typed : Put → List ℕ → Put
-typed p [] = p
-typed p (b ∷ bs) = typed (pushed p b) bs
+-- the number of the record behind that of number n. Numbers stay at the largest that 64 bits hold
+abbrev pub numbered : ℕ → ℕ
+numbered n = cond (ltb n 18446744073709551615) (n + 1) n

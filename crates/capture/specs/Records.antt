@@ -1,7 +1,7 @@
 -- A capture: a header, and records one behind the other, big-endian. What each record calls.
 -- Assumes nothing.
 use Prim.Native.Nat.{ℕ, _+_, _/_, _%_}
-use mathlib.Core.Bool.{Bool, cond, _&&_, _||_}
+use mathlib.Core.Bool.{Bool, true, false, cond, _&&_, _||_}
 use mathlib.Core.List.{List}
 use lib.ListN.{length, getD, take, drop, replicate}
 use lib.Dec.{eqb, ltb, leb}
@@ -42,6 +42,19 @@ nextOf octets r =
 
 unfoldable pub nextIn : List ℕ → Next
 nextIn s = nextOf (length s) (recordIn s)
+
+abbrev pub isWhole : Next → Bool
+isWhole (Whole r) = true
+isWhole Broken = false
+isWhole Short = false
+isWhole End = false
+
+-- the octets of a whole record
+abbrev pub sizeOf : Next → ℕ
+sizeOf (Whole r) = 16 + r .size
+sizeOf Broken = 0
+sizeOf Short = 0
+sizeOf End = 0
 
 -- a MEP-ID of a type, its 12 octets from a place on
 abbrev pub mepIn : ℕ → List ℕ → ℕ → MepId

@@ -5,8 +5,10 @@ mod records;
 
 pub use lines::put_line;
 pub use records::header_fits;
+pub use records::is_whole;
 pub use records::next_record;
 pub use records::request_at;
+pub use records::size_of;
 
 // The 16 octets before a body.
 pub struct Record {

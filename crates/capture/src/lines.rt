@@ -6,7 +6,8 @@ use step::Request;
 ghost use mathlib.Core.Path.{_≡_};
 ghost use Prim.Native.Nat.{_+_, _%_};
 ghost use mathlib.Core.List.{_∷_};
-ghost use Rattle.capture.specs.Lines.{digits, decimal, hexDigit, hex, spaced, sevenNumbers, requestText, lineFor, pushed, typed};
+ghost use Rattle.capture.specs.Lines.{digits, decimal, hexDigit, hex, spaced, sevenNumbers};
+ghost use Rattle.capture.specs.Typing.{requestText, lineFor, pushed, typed};
 
 // One octet.
 fn push(out: &mut [u8], at: usize, b: u8) -> usize

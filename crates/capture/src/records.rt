@@ -13,7 +13,7 @@ ghost use Prim.Native.Nat.{_+_};
 ghost use mathlib.Core.Bool.{cond};
 ghost use lib.ListN.{drop};
 ghost use Rattle.step.specs.Requests.{requestOn, requestOf};
-ghost use Rattle.capture.specs.Records.{headerIs, headerFits, recordIn, bodyIn, isBroken, nextOf, nextIn, mepIn, bodyFits, settingsIn, actOf, callOf, callIn};
+ghost use Rattle.capture.specs.Records.{headerIs, headerFits, recordIn, bodyIn, isBroken, nextOf, nextIn, isWhole, sizeOf, mepIn, bodyFits, settingsIn, actOf, callOf, callIn};
 
 fn header_is(first: u8, second: u8, third: u8, version: u16, x: u8, y: u8, z: u8) -> bool
     ensures { λ r. ⌜ r ≡ headerIs first second third version x y z ⌝ }
@@ -112,6 +112,29 @@ pub fn next_record(s: &[u8], at: usize) -> Next
 {
     let rest = from_place(s, at);
     next_of(rest.len(), record_in(rest))
+}
+
+pub fn is_whole(n: Next) -> bool
+    ensures { λ r. ⌜ r ≡ isWhole n ⌝ }
+{
+    match n {
+        Next::Whole(_) => true,
+        Next::Broken => false,
+        Next::Short => false,
+        Next::End => false,
+    }
+}
+
+// The octets of a whole record.
+pub fn size_of(n: Next) -> usize
+    ensures { λ r. ⌜ r ≡ sizeOf n ⌝ }
+{
+    match n {
+        Next::Whole(r) => 16 + r.size as usize,
+        Next::Broken => 0,
+        Next::Short => 0,
+        Next::End => 0,
+    }
 }
 
 // The body of the record that these octets start with; what is there of it.

@@ -9,8 +9,7 @@ use lib.ListN.{length, drop, length-drop}
 use borrow.Author.Tests.{ltb-false}
 use Rattle.rules.proofs.Bools.{split}
 use Rattle.capture.specs.declared.Record.{Record}
-use Rattle.capture.specs.Records.{isBroken, nextOf, recordIn, nextIn}
-use Rattle.feed.specs.Feeding.{sizeOf}
+use Rattle.capture.specs.Records.{isBroken, nextOf, recordIn, nextIn, sizeOf}
 
 size-of-next : (n : ℕ) (r : Record) → sizeOf (nextOf n r) ≤ n
 size-of-next n r =

@@ -13,9 +13,9 @@ use Rattle.step.specs.declared.Request.{Request}
 use Rattle.step.specs.Stepping.{rowStep, rowAfter}
 use Rattle.capture.specs.declared.Record.{Record}
 use Rattle.capture.specs.declared.Next.the-variants.{Whole, Broken, Short, End}
-use Rattle.capture.specs.Records.{recordIn, nextIn, nextOf, isBroken}
+use Rattle.capture.specs.Records.{recordIn, nextIn, nextOf, isBroken, isWhole, sizeOf}
 use Rattle.row.proofs.Branches.{held-is, failed-is}
-use Rattle.feed.specs.Feeding.{longest, isWhole, sizeOf, moreOf, Answered, answered, Flow, requestIn, turnOf, goOn, feedOf}
+use Rattle.feed.specs.Feeding.{longest, moreOf, Answered, answered, Flow, requestIn, turnOf, goOn, feedOf}
 use Rattle.feed.specs.declared.Fed.{Fed}
 
 both : (t u : Bool) → Holds (t && u) → Holds t × Holds u

@@ -1,9 +1,9 @@
 -- A piece of a capture fed to a table: as many whole records as there are and lines as fit. This is what the code is proved to do.
 -- Assumes nothing.
 use Prim.Native.Nat.{ℕ, zero, suc, _+_, _-_}
-use mathlib.Core.Bool.{Bool, true, false, cond, _&&_}
+use mathlib.Core.Bool.{Bool, cond, _&&_}
 use mathlib.Core.List.{List}
-use lib.Dec.{leb, ltb}
+use lib.Dec.{leb}
 use lib.ListN.{length, drop}
 use Rattle.session.specs.declared.Session.{Session}
 use Rattle.table.specs.declared.Head.{Head}
@@ -11,36 +11,18 @@ use Rattle.step.specs.declared.Outcome.{Outcome}
 use Rattle.step.specs.declared.Request.{Request}
 use Rattle.step.specs.Requests.{requestOf}
 use Rattle.step.specs.Stepping.{rowStep, rowAfter}
-use Rattle.capture.specs.declared.Next.{Next}
-use Rattle.capture.specs.declared.Next.the-variants.{Whole, Broken, Short, End}
-use Rattle.capture.specs.Records.{nextIn, callIn}
-use Rattle.capture.specs.Lines.{Put, typed, lineFor}
+use Rattle.capture.specs.Records.{nextIn, isWhole, sizeOf, callIn}
+use Rattle.capture.specs.Lines.{numbered}
+use Rattle.capture.specs.Typing.{typed, lineFor}
 use Rattle.feed.specs.declared.Fed.{Fed}
 
 -- no line is longer
 abbrev pub longest : ℕ
 longest = 160
 
-abbrev pub isWhole : Next → Bool
-isWhole (Whole r) = true
-isWhole Broken = false
-isWhole Short = false
-isWhole End = false
-
--- the octets of a whole record
-abbrev pub sizeOf : Next → ℕ
-sizeOf (Whole r) = 16 + r .size
-sizeOf Broken = 0
-sizeOf Short = 0
-sizeOf End = 0
-
 -- a whole record stands next, and there is room for its line
 unfoldable pub moreOf : Fed → List ℕ → ℕ → Bool
 moreOf f input room = isWhole (nextIn (drop (f .used) input)) && leb longest (room - f .written)
-
--- record numbers stay at the largest that 64 bits hold
-abbrev pub numbered : ℕ → ℕ
-numbered n = cond (ltb n 18446744073709551615) (n + 1) n
 
 -- what is fed after a request, and the output
 pub record Answered : Type 0 where

@@ -1,27 +1,18 @@
 // One record of the feed: whether it is there, and its answer.
 use crate::Fed;
-use capture::Next;
+use capture::is_whole;
 use capture::next_record;
 use capture::put_line;
+use capture::size_of;
 use step::Outcome;
 use step::Request;
 ghost use mathlib.Core.Path.{_≡_};
 ghost use Prim.Native.Nat.{_+_, _-_};
 ghost use lib.Dec.{leb};
 ghost use lib.ListN.{drop};
-ghost use Rattle.capture.specs.Records.{nextIn};
-ghost use Rattle.feed.specs.Feeding.{longest, isWhole, sizeOf, moreOf, numbered, answered};
-
-fn is_whole(n: Next) -> bool
-    ensures { λ r. ⌜ r ≡ isWhole n ⌝ }
-{
-    match n {
-        Next::Whole(_) => true,
-        Next::Broken => false,
-        Next::Short => false,
-        Next::End => false,
-    }
-}
+ghost use Rattle.capture.specs.Records.{nextIn, sizeOf};
+ghost use Rattle.capture.specs.Lines.{numbered};
+ghost use Rattle.feed.specs.Feeding.{longest, moreOf, answered};
 
 fn has_room(room: usize, written: usize) -> bool
     ensures { λ r. ⌜ r ≡ leb longest (room - written) ⌝ }
@@ -40,17 +31,6 @@ pub fn more(f: Fed, input: &[u8], room: usize) -> bool
         return has_room(room, f.written);
     }
     false
-}
-
-fn size_of(n: Next) -> usize
-    ensures { λ r. ⌜ r ≡ sizeOf n ⌝ }
-{
-    match n {
-        Next::Whole(r) => 16 + r.size as usize,
-        Next::Broken => 0,
-        Next::Short => 0,
-        Next::End => 0,
-    }
 }
 
 // The place behind the record at a place; that place where no whole one stands.

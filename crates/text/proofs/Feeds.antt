@@ -18,12 +18,13 @@ use Rattle.step.specs.declared.Request.{Request}
 use Rattle.step.specs.Requests.{requestOf}
 use Rattle.step.specs.Stepping.{tableOf, rowStep, rowAfter}
 use Rattle.step.proofs.TableStep.{step-table}
-use Rattle.capture.specs.Records.{nextIn, actOf, callOf, callIn, recordIn, bodyIn}
-use Rattle.capture.specs.Lines.{line, lineFor}
+use Rattle.capture.specs.Records.{nextIn, actOf, callOf, callIn, recordIn, bodyIn, isWhole, sizeOf}
+use Rattle.capture.specs.Lines.{line, numbered}
+use Rattle.capture.specs.Typing.{lineFor}
 use Rattle.capture.proofs.LineSaid.{Exact, ExactAct, line-said}
 use Rattle.capture.proofs.Typing.{typed-fits, line-short}
 use Rattle.feed.specs.declared.Fed.{Fed}
-use Rattle.feed.specs.Feeding.{longest, isWhole, sizeOf, numbered, moreOf, answered, Flow, requestIn, turnOf, goOn, feedOf}
+use Rattle.feed.specs.Feeding.{longest, moreOf, answered, Flow, requestIn, turnOf, goOn, feedOf}
 use Rattle.meaning.specs.Histories.{History, after}
 use Rattle.meaning.specs.Answers.{says}
 use Rattle.text.specs.Text.{Parsed, parsed, linesAfter}

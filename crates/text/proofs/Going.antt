@@ -14,9 +14,9 @@ use Rattle.octets.proofs.Runs.{past as put-past, joined}
 use Rattle.rules.proofs.Bools.{split}
 use Rattle.table.specs.Table.{absent, emptied}
 use Rattle.step.specs.Stepping.{tableOf}
-use Rattle.capture.specs.Records.{nextIn}
+use Rattle.capture.specs.Records.{nextIn, isWhole}
 use Rattle.feed.specs.declared.Feeding.{Feeding}
-use Rattle.feed.specs.Feeding.{isWhole, Flow, feedOf}
+use Rattle.feed.specs.Feeding.{Flow, feedOf}
 use Rattle.meaning.specs.Histories.{History, start}
 use Rattle.text.specs.declared.Count.{Count}
 use Rattle.text.specs.Text.{Parsed, parsed, linesAfter, cut, ending, textAfter}

@@ -8,9 +8,8 @@ use lib.ListN.{length, drop, length-drop}
 use borrow.Author.Tests.{lt-ltb}
 use Rattle.rules.specs.Calls.{Call}
 use Rattle.rules.proofs.Bools.{split}
-use Rattle.capture.specs.Records.{nextIn}
-use Rattle.capture.specs.Lines.{line}
-use Rattle.feed.specs.Feeding.{isWhole, sizeOf, numbered}
+use Rattle.capture.specs.Records.{nextIn, isWhole, sizeOf}
+use Rattle.capture.specs.Lines.{line, numbered}
 use Rattle.meaning.specs.Histories.{History, start, after}
 use Rattle.meaning.specs.Answers.{says}
 use Rattle.text.specs.Text.{parsedBy, parsed, linesAfter}

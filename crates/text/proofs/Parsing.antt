@@ -13,8 +13,7 @@ use Rattle.octets.specs.Numbers.{numberAt}
 use Rattle.rules.proofs.Bools.{split, no-way}
 use Rattle.capture.specs.declared.Record.{Record}
 use Rattle.capture.specs.declared.Next.the-variants.{Whole}
-use Rattle.capture.specs.Records.{recordIn, isBroken, nextOf, nextIn, callIn}
-use Rattle.feed.specs.Feeding.{isWhole, sizeOf}
+use Rattle.capture.specs.Records.{recordIn, isBroken, nextOf, nextIn, callIn, isWhole, sizeOf}
 use Rattle.text.specs.Text.{Parsed, parsedBy, parsed}
 
 -- ---- a whole record

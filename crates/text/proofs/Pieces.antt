@@ -9,9 +9,9 @@ use lib.ListN.{length, take, drop}
 use Rattle.session.specs.declared.Session.{Session}
 use Rattle.table.specs.Table.{emptied}
 use Rattle.step.specs.Stepping.{tableOf}
-use Rattle.capture.specs.Records.{headerFits, nextIn}
+use Rattle.capture.specs.Records.{headerFits, nextIn, isWhole}
 use Rattle.feed.specs.declared.Fed.{Fed}
-use Rattle.feed.specs.Feeding.{isWhole, Flow, feedOf}
+use Rattle.feed.specs.Feeding.{Flow, feedOf}
 use Rattle.meaning.specs.Histories.{History, start}
 use Rattle.text.specs.Text.{Parsed, parsed, linesAfter, ending, textAfter, textOf}
 use Rattle.text.specs.Pieces.{Piece, Stage, beginning, fedPiece, fedPieces, joined}

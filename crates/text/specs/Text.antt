@@ -7,9 +7,8 @@ use mathlib.Core.List.{List, [], _∷_, _++_}
 use lib.Dec.{eqb}
 use lib.ListN.{length, drop}
 use Rattle.rules.specs.Calls.{Call}
-use Rattle.capture.specs.Records.{headerFits, nextIn, callIn}
-use Rattle.capture.specs.Lines.{line}
-use Rattle.feed.specs.Feeding.{isWhole, sizeOf, numbered}
+use Rattle.capture.specs.Records.{headerFits, nextIn, callIn, isWhole, sizeOf}
+use Rattle.capture.specs.Lines.{line, numbered}
 use Rattle.meaning.specs.Histories.{History, start, after}
 use Rattle.meaning.specs.Answers.{says}
 

@@ -1,6 +1,6 @@
 // The lines of a capture's records and how it ends, put part by part.
 use crate::Count;
-use capture::Next;
+use capture::is_whole;
 use capture::next_record;
 use feed::Fed;
 use feed::Feeding;
@@ -11,21 +11,9 @@ ghost use Prim.Native.Nat.{_+_, _≤_};
 ghost use mathlib.Core.Bool.{cond};
 ghost use mathlib.Core.List.{[]};
 ghost use lib.ListN.{length, drop};
-ghost use Rattle.feed.specs.Feeding.{isWhole};
 ghost use Rattle.meaning.specs.Histories.{start};
 ghost use Rattle.text.specs.Text.{cut, textAfter};
 ghost use Rattle.text.specs.Putting.{counted, putting, emptyTable, rewound};
-
-fn is_whole(n: Next) -> bool
-    ensures { λ r. ⌜ r ≡ isWhole n ⌝ }
-{
-    match n {
-        Next::Whole(_) => true,
-        Next::Broken => false,
-        Next::Short => false,
-        Next::End => false,
-    }
-}
 
 // A table made empty, before the record at a place.
 fn empty_table(used: usize) -> Feeding

@@ -49,7 +49,7 @@ use Rattle.table.specs.declared.Head.{Head}
 use Rattle.step.specs.declared.Outcome.{Outcome}
 use Rattle.step.specs.declared.Request.{Request}
 use Rattle.step.specs.Stepping.{rowStep, rowAfter}
-use Rattle.capture.specs.Records.{nextIn}
+use Rattle.capture.specs.Records.{nextIn, sizeOf}
 use Rattle.row.proofs.LentSlice.{slice, Mutable}
 use Rattle.row.proofs.LentOn.{lent-mutable, mutable-back}
 use Rattle.row.proofs.RecordOfRow.{RowRecord}
@@ -68,7 +68,7 @@ use Rattle.capture.proofs.request_at.Symbol as rq-def
 use Rattle.capture.proofs.request_at.Symbol.{name as #capture·request-at}
 use Rattle.capture.proofs.request_at.Met as rq-thm
 use Rattle.feed.specs.declared.Fed.{Fed}
-use Rattle.feed.specs.Feeding.{sizeOf, moreOf, answered, requestIn, goOn, feedOf}
+use Rattle.feed.specs.Feeding.{moreOf, answered, requestIn, goOn, feedOf}
 use Rattle.feed.proofs.FedPlain.{fedP, fed-head, used-fits}
 use Rattle.feed.proofs.Turns.{more-says, used-after, flow, is-turn, stops, goes-on, begins}
 use Rattle.feed.proofs.records.more as mo

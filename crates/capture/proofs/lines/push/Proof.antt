@@ -2,7 +2,7 @@
 -- Assumes nothing.
 use borrow.Author.Needs.{needs}
 use borrow.Author.Tests.{lt-ltb, le-ltb}
-use Rattle.capture.specs.Lines.{pushed}
+use Rattle.capture.specs.Typing.{pushed}
 use Rattle.capture.proofs.lines.push.Statement.{statement}
 use Rattle.capture.proofs.lines.push.Tie as tie
 

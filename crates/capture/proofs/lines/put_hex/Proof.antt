@@ -5,7 +5,8 @@ use mathlib.Core.Path.{_≡_, refl, _∙_}
 use borrow.Author.Needs.{needs}
 use native.Mathlib.Omega.{arith}
 use lib.ListN.{length, take}
-use Rattle.capture.specs.Lines.{Put, hex, typed}
+use Rattle.capture.specs.Lines.{hex}
+use Rattle.capture.specs.Typing.{Put, typed}
 use Rattle.capture.proofs.Typing.{hex-none, hex-more, hex-all}
 use Rattle.capture.proofs.lines.put_hex.Statement.{statement}
 use Rattle.capture.proofs.lines.put_hex.Tie as tie

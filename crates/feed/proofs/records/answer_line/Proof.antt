@@ -4,9 +4,10 @@ use borrow.Author.Needs.{needs}
 use Prim.Native.Nat.{_+_}
 use mathlib.Core.Path.{ap, _∙_}
 use lib.ListN.{drop}
-use Rattle.capture.specs.Records.{nextIn}
-use Rattle.capture.specs.Lines.{Put}
-use Rattle.feed.specs.Feeding.{sizeOf, numbered, answered}
+use Rattle.capture.specs.Records.{nextIn, sizeOf}
+use Rattle.capture.specs.Typing.{Put}
+use Rattle.capture.specs.Lines.{numbered}
+use Rattle.feed.specs.Feeding.{answered}
 use Rattle.feed.proofs.records.answer_line.Statement.{statement}
 use Rattle.feed.proofs.records.answer_line.Tie as tie
 

@@ -3,7 +3,7 @@
 use borrow.Author.Needs.{needs}
 use mathlib.Core.Path.{ap, _∙_}
 use native.Mathlib.Omega.{arith}
-use Rattle.feed.specs.Feeding.{sizeOf}
+use Rattle.capture.specs.Records.{sizeOf}
 use Rattle.feed.proofs.Sizes.{size-within}
 use Rattle.feed.proofs.records.behind.Statement.{statement}
 use Rattle.feed.proofs.records.behind.Tie as tie

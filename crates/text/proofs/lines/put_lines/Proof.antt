@@ -9,8 +9,7 @@ use lib.Seq.{length-take-le}
 use borrow.Author.Needs.{needs}
 use borrow.Author.Tests.{not-true, not-false}
 use Rattle.rules.proofs.Bools.{no-way}
-use Rattle.capture.specs.Records.{nextIn}
-use Rattle.feed.specs.Feeding.{isWhole}
+use Rattle.capture.specs.Records.{nextIn, isWhole}
 use Rattle.text.proofs.Going.{Invariant, begins, part-within, turn, turn-uses, ends, stopped}
 use Rattle.text.proofs.lines.put_lines.Statement.{statement}
 use Rattle.text.proofs.lines.put_lines.Tie as tie

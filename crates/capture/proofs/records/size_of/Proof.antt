@@ -1,8 +1,8 @@
--- `feed::size_of` meets its contract.
+-- `capture::size_of` meets its contract.
 -- Assumes nothing.
 use borrow.Author.Needs.{needs}
-use Rattle.feed.proofs.records.size_of.Statement.{statement}
-use Rattle.feed.proofs.records.size_of.Tie as tie
+use Rattle.capture.proofs.records.size_of.Statement.{statement}
+use Rattle.capture.proofs.records.size_of.Tie as tie
 
 pub size-of-spec : {M : Type 1} → statement M
 size-of-spec =
