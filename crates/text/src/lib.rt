@@ -2,6 +2,7 @@
 mod lines;
 
 use capture::header_fits;
+pub use lines::empty_table;
 use lines::put_lines;
 use octets::write_octets;
 ghost use mathlib.Core.Path.{_≡_};

@@ -16,7 +16,7 @@ ghost use Rattle.text.specs.Text.{cut, textAfter};
 ghost use Rattle.text.specs.Putting.{counted, putting, emptyTable, rewound};
 
 // A table made empty, before the record at a place.
-fn empty_table(used: usize) -> Feeding
+pub fn empty_table(used: usize) -> Feeding
     ensures { λ r. ⌜ r ≡ emptyTable used ⌝ }
 {
     let r = table::absent();

@@ -1,0 +1,104 @@
+-- One turn with no model: what the parts of the code answer, put together, is what the definition of a turn gives.
+-- Assumes nothing.
+use Prim.Native.Nat.{ℕ, _≤_, _<_}
+use native.Mathlib.Omega.{arith}
+use mathlib.Core.Path.{_≡_, refl, sym, ap, _∙_}
+use mathlib.Core.Bool.{Bool, true, false, cond}
+use mathlib.Core.List.{List, []}
+use lib.Dec.{ltb}
+use lib.ListN.{length, take, drop}
+use lib.Seq.{sets}
+use borrow.Author.Tests.{lt-ltb, le-ltb, ltb-true, ltb-false, eq-eqb, ne-eqb}
+use Rattle.rules.proofs.Bools.{split}
+use Rattle.capture.specs.Records.{headerFits, nextIn}
+use Rattle.feed.specs.declared.Feeding.{Feeding}
+use Rattle.feed.specs.Feeding.{Flow, feedOf}
+use Rattle.text.specs.Text.{cut, badHeader, ending}
+use Rattle.pump.specs.declared.Pump.{Pump}
+use Rattle.pump.specs.Pumping.{Pumped, Within, Shifted, same, lastWords, finishedOf, movedTo, atFront, linesPut, isOver, fedTo, fedOn, headerRead, isWaiting, begunOn, turnOf}
+
+module _ (p : Pump) (buf out : List ℕ) (n : ℕ) (w : Within (p .have) buf n) where
+  -- so many octets of input are there
+  input-length : length (take (p .have) buf) ≡ n
+  input-length = ap length (sym (w .same-part)) ∙ sym (w .count)
+
+  -- something is left where there is any
+  ending-is : cond (ltb 0 n) cut [] ≡ ending (take (p .have) buf)
+  ending-is =
+      split (ltb 0 n)
+      (λ e. rw (e, ne-eqb (length (take (p .have) buf)) 0 (λ z. omega (arith, ltb-true 0 n e, input-length))))
+      (λ e. rw (e, eq-eqb (length (take (p .have) buf)) 0 (omega (arith, ltb-false 0 n e, input-length))))
+
+  -- ---- behind the header
+  module _ (v u : Feeding) (after : List ℕ) (front : v ≡ atFront (p .table))
+      (e : record { row = u .row; fed = u .fed; out = after } ≡ feedOf (v .row) (v .fed) (take n buf) out) where
+    abbrev flow : Flow
+    flow = record { row = u .row; fed = u .fed; out = after }
+
+    fed : fedTo p buf flow ≡ fedOn p buf out
+    unfolding fedOn atFront
+    fed =
+        ap (fedTo p buf)
+        (e ∙ ap (λ (t : Feeding). feedOf (t .row) (t .fed) (take n buf) out) front
+        ∙ ap (λ (s : List ℕ). feedOf (p .table .row) (atFront (p .table) .fed) s out) (w .same-part))
+
+    -- records were taken
+    pub lines : 0 < u .fed .used → (have : ℕ) (buf′ : List ℕ) → Shifted buf (u .fed .used) n have buf′
+        → record { pump = linesPut p flow have; buf = buf′; out = after } ≡ fedOn p buf out
+    unfolding fedTo
+    lines l have buf′ s = rw (s .count, s .moved, w .same-part, ← fed, lt-ltb 0 (u .fed .used) l)
+
+    module _ (none : u .fed .used ≤ 0) where
+      -- how the text ends
+      pub ends : isOver (p .closed) (nextIn (take n buf)) ≡ true → (q : Pump) (out′ : List ℕ)
+          → (q ≡ lastWords p (length (cond (ltb 0 n) cut []))) × (out′ ≡ sets after 0 (cond (ltb 0 n) cut []))
+          → record { pump = q; buf = buf; out = out′ } ≡ fedOn p buf out
+      unfolding fedTo finishedOf
+      ends o q out′ s = rw (s .0, s .1, ending-is, ← fed, le-ltb 0 (u .fed .used) none, ← w .same-part, o)
+
+      -- more is to be read
+      pub stays : isOver (p .closed) (nextIn (take n buf)) ≡ false → same p buf after ≡ fedOn p buf out
+      unfolding fedTo
+      stays o = rw (← fed, le-ltb 0 (u .fed .used) none, ← w .same-part, o)
+
+  -- ---- the header
+  pub waits : isWaiting (p .closed) n ≡ true → same p buf out ≡ begunOn p buf out
+  unfolding begunOn
+  waits e = rw (input-length, e)
+
+  module _ (there : isWaiting (p .closed) n ≡ false) where
+    pub wrong : headerFits (take n buf) ≡ false → (q : Pump) (out′ : List ℕ) → (q ≡ lastWords p (length badHeader)) × (out′ ≡ sets out 0 badHeader)
+        → record { pump = q; buf = buf; out = out′ } ≡ begunOn p buf out
+    unfolding begunOn finishedOf
+    wrong h q out′ s = rw (s .0, s .1, input-length, there, ← w .same-part, h)
+
+    pub right : headerFits (take n buf) ≡ true → (have : ℕ) (buf′ : List ℕ) → Shifted buf 8 n have buf′ → (q : Pump) → q ≡ headerRead p have
+        → (x : Pumped) → x ≡ fedOn q buf′ out → x ≡ begunOn p buf out
+    unfolding begunOn
+    right h have buf′ s q e x f = f ∙ rw (e, s .count, s .moved, input-length, there, ← w .same-part, h)
+
+-- ---- a turn
+third : {a o b : Bool} (w x y z : Pumped) → a ≡ false → o ≡ false → b ≡ true → cond a w (cond o x (cond b y z)) ≡ y
+third w x y z d e f = rw (d, e, f)
+
+fourth : {a o b : Bool} (w x y z : Pumped) → a ≡ false → o ≡ false → b ≡ false → cond a w (cond o x (cond b y z)) ≡ z
+fourth w x y z d e f = rw (d, e, f)
+
+module _ (p : Pump) (buf out : List ℕ) where
+  pub writes-first : p .from < p .to → same p buf out ≡ turnOf p buf out
+  unfolding turnOf
+  writes-first l = rw (lt-ltb (p .from) (p .to) l)
+
+  module _ (written : p .to ≤ p .from) where
+    pub no-more : p .over ≡ true → same p buf out ≡ turnOf p buf out
+    unfolding turnOf
+    no-more o = rw (le-ltb (p .from) (p .to) written, o)
+
+    module _ (on : p .over ≡ false) where
+      pub feeds : p .begun ≡ true → (x : Pumped) → x ≡ fedOn p buf out → x ≡ turnOf p buf out
+      unfolding turnOf
+      feeds b x e = e ∙ sym (third (same p buf out) (same p buf out) (fedOn p buf out) (begunOn p buf out) (le-ltb (p .from) (p .to) written) on b)
+
+      pub begins : p .begun ≡ false → (x : Pumped) → x ≡ begunOn p buf out → x ≡ turnOf p buf out
+      unfolding turnOf
+      begins b x e = e ∙ sym (fourth (same p buf out) (same p buf out) (fedOn p buf out) (begunOn p buf out) (le-ltb (p .from) (p .to) written) on b)
