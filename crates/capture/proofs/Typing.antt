@@ -73,6 +73,14 @@ digits-more (suc j) n p some h e f =
     let same : suc j - 1 ≡ j = omega arith in
     rw (le-ltb n 10 h) (then-last p (digits j (n / 10)) (48 + n % 10) (e ∙ ap (λ (i : ℕ). typed p (digits i (n / 10))) same) f)
 
+-- ---- octets as they are
+pub words-more : (p : Put) (words : List ℕ) (i : ℕ) {q r : Put} → i < length words → q ≡ typed p (take i words) → r ≡ pushed q (getD words i 0)
+    → r ≡ typed p (take (i + 1) words)
+words-more p words i l e f = rw (add-one, take-suc words i 0 l) (then-last p (take i words) (getD words i 0) e f)
+
+pub words-all : (p : Put) (words : List ℕ) (i : ℕ) → length words ≤ i → typed p (take i words) ≡ typed p words
+words-all p words i h = ap (typed p) (take-all i words h)
+
 -- ---- octets in hex
 hex-join : (xs ys : List ℕ) → hex (xs ++ ys) ≡ hex xs ++ hex ys
 unfolding hex

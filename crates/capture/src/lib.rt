@@ -3,7 +3,9 @@
 mod lines;
 mod records;
 
+pub use lines::put_decimal;
 pub use lines::put_line;
+pub use lines::put_words;
 pub use records::header_fits;
 pub use records::is_whole;
 pub use records::next_record;

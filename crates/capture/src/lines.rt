@@ -35,6 +35,26 @@ fn put_digits(out: &mut [u8], at: usize, n: u64, places: u32) -> usize
     push(out, next, last)
 }
 
+// A number in decimal.
+pub fn put_decimal(out: &mut [u8], at: usize, n: u64) -> usize
+    ensures { λ r. ⌜ record { buffer = now (out .exit); at = r } ≡ typed (record { buffer = now (out .entry); at = at }) (decimal n) ⌝ }
+{
+    put_digits(out, at, n, 20)
+}
+
+// Octets as they are.
+pub fn put_words(out: &mut [u8], at: usize, words: &[u8]) -> usize
+    ensures { λ r. ⌜ record { buffer = now (out .exit); at = r } ≡ typed (record { buffer = now (out .entry); at = at }) (now (words .entry)) ⌝ }
+{
+    let mut next = at;
+    let mut i: usize = 0;
+    while i < words.len() {
+        next = push(&mut *out, next, words[i]);
+        i += 1;
+    }
+    next
+}
+
 // A space and a number.
 fn put_spaced(out: &mut [u8], at: usize, n: u64) -> usize
     ensures { λ r. ⌜ record { buffer = now (out .exit); at = r } ≡ typed (record { buffer = now (out .entry); at = at }) (spaced n) ⌝ }

@@ -1,2 +1,5 @@
+pub mod Failing
 pub mod Shifting
 pub mod Turning
+pub mod Mending
+pub mod Watching

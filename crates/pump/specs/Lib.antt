@@ -1,1 +1,3 @@
 pub mod Pumping
+pub mod Failures
+pub mod Watching

@@ -1,8 +1,10 @@
 // The core of `watch`: a capture read in whatever pieces it comes, its text written in whatever
 // pieces it is taken. All but the two system calls is here, by value.
+mod failures;
 mod moving;
 mod turns;
 
+pub use failures::put_failure;
 use feed::Feeding;
 use moving::advance;
 use turns::begin;

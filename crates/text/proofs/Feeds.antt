@@ -5,12 +5,12 @@ use native.Mathlib.Omega.{arith}
 use mathlib.Core.Path.{_≡_, refl, sym, ap, subst, _∙_}
 use mathlib.Core.Bool.{true, false}
 use mathlib.Core.List.{List, [], _∷_, _++_, append-assoc, append-nil}
-use lib.Dec.{eqb, leb}
+use lib.Dec.{eqb, ltb, leb}
 use lib.ListN.{length, take, drop, length-set, length-append, length-drop}
 use lib.Seq.{drop-drop, take-at, length-take-le}
-use borrow.Author.Tests.{leb-true, le-leb}
+use borrow.Author.Tests.{ltb-true, ltb-false, leb-true, le-leb}
 use Rattle.octets.proofs.Chain.{and-both}
-use Rattle.rules.specs.Calls.{Call}
+use Rattle.rules.specs.Calls.{Call, Said}
 use Rattle.rules.proofs.Bools.{split, both-true}
 use Rattle.session.specs.declared.Session.{Session}
 use Rattle.table.specs.declared.Head.{Head}
@@ -59,6 +59,11 @@ exact-call s =
     (λ b. rw (a, b) (exact-act (r .kind) (bodyIn s (r .size)) (r .time))))
 
 -- ---- the text of what comes, by one record
+-- a line has its end
+line-some : (n : ℕ) (c : Call) (a : Said) → 1 ≤ length (line n c a)
+unfolding line
+line-some n c a = simp length-append (omega arith)
+
 module _ (h : History) (n : ℕ) (s f : List ℕ) (e : isWhole (nextIn s) ≡ true) where
   -- the calls of s and then of what comes behind: the first is that of s
   first-parsed : parsed (s ++ f) ≡ record {
@@ -86,6 +91,8 @@ pub record Went (input : List ℕ) (h : History) (x y : Flow) : Type 0 where
   pub written : y .fed .written ≡ x .fed .written + length lines
   pub within : y .fed .written ≤ length (y .out)
   pub used : x .fed .used ≤ y .fed .used
+  -- each record has a line
+  pub some : x .fed .used < y .fed .used → x .fed .written < y .fed .written
   pub put : take (y .fed .written) (y .out) ≡ take (x .fed .written) (x .out) ++ lines
   pub text : (future : List ℕ) → linesAfter h (x .fed .number) (parsed (drop (x .fed .used) input ++ future) .calls)
       ≡ lines ++ linesAfter past (y .fed .number) (parsed (drop (y .fed .used) input ++ future) .calls)
@@ -104,6 +111,7 @@ module _ (input : List ℕ) where
         written = omega arith;
         within = l;
         used = omega arith;
+        some = λ l. absurd (omega arith);
         put = sym (append-nil (take (x .fed .written) (x .out)));
         text = λ future. refl;
         rest = λ future. refl;
@@ -121,6 +129,10 @@ module _ (input : List ℕ) where
         written = omega (arith, a .written, b .written, length-append (a .lines) (b .lines));
         within = b .within;
         used = omega (arith, a .used, b .used);
+        some = λ l.
+            split (ltb (x .fed .used) (y .fed .used))
+            (λ e. omega (arith, a .some (ltb-true (x .fed .used) (y .fed .used) e), b .written))
+            (λ e. omega (arith, a .written, b .some (omega (arith, ltb-false (x .fed .used) (y .fed .used) e, a .used))));
         put = b .put ∙ ap (λ (l : List ℕ). l ++ b .lines) (a .put) ∙ append-assoc (take (x .fed .written) (x .out)) (a .lines) (b .lines);
         text = λ future. a .text future ∙ ap (λ (l : List ℕ). a .lines ++ l) (b .text future) ∙ sym (append-assoc (a .lines) (b .lines) _);
         rest = λ future. a .rest future ∙ b .rest future;
@@ -157,6 +169,7 @@ module _ (input : List ℕ) where
           written = refl;
           within = omega (arith, same);
           used = omega arith;
+          some = λ u. omega (arith, ap length t, line-some (numbered (x .fed .number)) c (says h c));
           put = take-at (take (x .fed .written) (x .out) ++ text) _ (x .fed .written + length text) (length-append (take (x .fed .written) (x .out)) text ∙ rw before);
           text = λ future. first-line h (x .fed .number) s future w ∙ rw (behind, t);
           rest = λ future. ap (λ (p : Parsed). p .rest) (first-parsed h (x .fed .number) s future w) ∙ rw behind;

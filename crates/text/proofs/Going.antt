@@ -80,7 +80,7 @@ ending-is s n =
 
 -- ---- one turn
 -- a part and what is left behind it
-text-parts : (h g : History) (m n : ℕ) (s r part : List ℕ) → linesAfter h m (parsed s .calls) ≡ part ++ linesAfter g n (parsed r .calls)
+pub text-parts : (h g : History) (m n : ℕ) (s r part : List ℕ) → linesAfter h m (parsed s .calls) ≡ part ++ linesAfter g n (parsed r .calls)
     → parsed s .rest ≡ parsed r .rest → textAfter h m s ≡ part ++ textAfter g n r
 unfolding textAfter
 text-parts h g m n s r part l e = rw (l, e) (append-assoc part (linesAfter g n (parsed r .calls)) (ending (parsed r .rest)))

@@ -48,11 +48,11 @@ whole-size s e =
     (omega (arith, w .size), omega (arith, w .size, w .within))
 
 -- ---- octets that come behind it
-at-front : (k : ℕ) (s f : List ℕ) (at : ℕ) → at + k ≤ length s → numberAt k (s ++ f) at ≡ numberAt k s at
+pub at-front : (k : ℕ) (s f : List ℕ) (at : ℕ) → at + k ≤ length s → numberAt k (s ++ f) at ≡ numberAt k s at
 at-front zero s f at h = refl
 at-front (suc k) s f at h = rw (at-front k s f at (omega arith), List·getD-append s f 0 (at + k) (omega arith))
 
-record-front : (s f : List ℕ) → 16 ≤ length s → recordIn (s ++ f) ≡ recordIn s
+pub record-front : (s f : List ℕ) → 16 ≤ length s → recordIn (s ++ f) ≡ recordIn s
 unfolding recordIn
 record-front s f h =
     rw (at-front 8 s f 0 (omega arith), at-front 4 s f 8 (omega arith), at-front 2 s f 12 (omega arith), at-front 2 s f 14 (omega arith))

@@ -1,0 +1,16 @@
+-- The line for standard error, put part by part.
+-- Assumes nothing.
+use Prim.Native.Nat.{ℕ}
+use mathlib.Core.Path.{_≡_}
+use mathlib.Core.Bool.{Bool}
+use mathlib.Core.List.{[], _∷_}
+use Rattle.capture.specs.Lines.{decimal}
+use Rattle.capture.specs.Typing.{Put, typed}
+use Rattle.capture.proofs.Typing.{then}
+use Rattle.pump.specs.Failures.{callFailed, behindRecord, failureLine}
+
+pub five : (p : Put) (writing : Bool) (error number : ℕ) {a b c d e : Put}
+    → a ≡ typed p (callFailed writing) → b ≡ typed a (decimal error) → c ≡ typed b behindRecord → d ≡ typed c (decimal number) → e ≡ typed d (10 ∷ [])
+    → e ≡ typed p (failureLine writing error number)
+unfolding failureLine
+five p writing error number ea eb ec ed ee = then p _ _ (then p _ _ (then p _ _ (then p _ _ ea eb) ec) ed) ee
