@@ -9,8 +9,9 @@ use mathlib.Core.Logic.{_⊎_, inl, inr, ⊎-elim}
 use mathlib.Core.List.{List, [], _∷_, _++_, append-assoc, append-nil}
 use lib.Dec.{ltb, eqb}
 use lib.ListN.{length, take, drop, replicate, length-append, length-drop, length-take, length-replicate}
-use lib.Seq.{sets, length-sets, length-take-le, take-append-seam, drop-append-le}
-use borrow.Author.Tests.{lt-ltb, le-ltb, ltb-true, ltb-false, not-true}
+use lib.Seq.{sets, length-sets, length-take-le, take-append-seam, take-append-add, drop-append-le, drop-drop, take-add, take-take}
+use borrow.Author.Tests.{lt-ltb, le-ltb, ltb-true, ltb-false, eqb-false, not-true}
+use Rattle.octets.specs.Choice.{bitOf}
 use Rattle.octets.proofs.Runs.{front}
 use Rattle.octets.proofs.Chain.{and-both}
 use Rattle.rules.proofs.Bools.{split, no-way, or-cases, refuted, forced, true-false, both-true}
@@ -110,6 +111,10 @@ module _ (p : Pump) where
 
   write-settled : p .from < p .to → {A : Type 0} → wantsOf p ≡ Read → A
   write-settled l e = absurd (omega (arith, wants-read e .0))
+
+bit-small : (b : Bool) → bitOf b ≤ 1
+bit-small true = omega arith
+bit-small false = omega arith
 
 -- neither of two tests
 neither : (a b : Bool) → a || b ≡ false → (a ≡ false) × (b ≡ false)
@@ -431,3 +436,260 @@ module _ (came written : List ℕ) (closed : Bool) where
       split (c .pump .begun)
       (λ b. subst After (feeds (c .pump) (c .buf) (c .out) l o b _ refl) (feed-after c (i .places) k l o b (subst (λ (v : Bool). Stage false v c came written) b s)))
       (λ b. subst After (begins (c .pump) (c .buf) (c .out) l o b _ refl) (begin-after c (i .places) k l o b (subst (λ (v : Bool). Stage false v c came written) b s))))
+
+-- ---- a call
+abbrev joined : Pump → List ℕ → List ℕ → List ℕ
+joined p buf part = take (p .have) buf ++ part
+
+-- the octets that a read brought stand behind those that were there
+module _ (p : Pump) (buf : List ℕ) (n : ℕ) (part : List ℕ) (there : p .have ≤ length buf) (room : length part ≡ length buf - p .have) (few : n ≤ length part) where
+  joined-length : length (joined p buf part) ≡ length buf
+  joined-length = omega (arith, length-append (take (p .have) buf) part, length-take-le (p .have) buf there)
+
+  so-many : min (p .have + n) (length (joined p buf part)) ≡ p .have + n
+  so-many = omega (arith, joined-length)
+
+  read-in : take (min (p .have + n) (length (joined p buf part))) (joined p buf part) ≡ inputIn p buf ++ take n part
+  read-in =
+      ap (λ (k : ℕ). take k (joined p buf part)) so-many
+      ∙ ap (λ (k : ℕ). take (k + n) (joined p buf part)) (sym (length-take-le (p .have) buf there))
+      ∙ take-append-add (take (p .have) buf) part n
+
+-- the octets that a write took stand before those that are left
+module _ (p : Pump) (out : List ℕ) (order : p .from ≤ p .to) (fits : p .to ≤ length out) where
+  pending-length : length (pendingIn p out) ≡ p .to - p .from
+  pending-length = length-take-le (p .to - p .from) (drop (p .from) out) (omega (arith, length-drop (p .from) out))
+
+  module _ (n : ℕ) (few : n ≤ length (pendingIn p out)) where
+    so-far : min (p .from + n) (p .to) ≡ p .from + n
+    so-far = omega (arith, pending-length)
+
+    written-on : take n (pendingIn p out) ++ take (p .to - min (p .from + n) (p .to)) (drop (min (p .from + n) (p .to)) out) ≡ pendingIn p out
+    written-on =
+        let rest = drop (p .from) out in
+        let m = p .to - (p .from + n) in
+        let all : p .to - p .from ≡ n + m = omega (arith, pending-length) in
+        ap (λ (k : ℕ). take n (pendingIn p out) ++ take (p .to - k) (drop k out)) so-far
+        ∙ ap (λ (l : List ℕ). take n (pendingIn p out) ++ take m l) (sym (drop-drop n (p .from) out))
+        ∙ ap (λ (l : List ℕ). l ++ take m (drop n rest)) (ap (λ (k : ℕ). take n (take k rest)) all ∙ take-take n (n + m) rest (omega arith))
+        ∙ sym (take-add n m rest)
+        ∙ ap (λ (k : ℕ). take k rest) (sym all)
+
+-- what holds between two calls
+record Holds (x : Watched) : Type 0 where
+  sound : Sound (x .core) (x .came) (x .written)
+  settled : Settled (x .core)
+
+-- octets that came and that were taken, and the end: each call adds to them
+abbrev weight : Watched → ℕ
+weight x = length (x .came) + length (x .written) + bitOf (x .core .pump .closed)
+
+record Stepped (x : Watched) (a : Answer) : Type 0 where
+  holds : Holds (called x a)
+  grows : weight x < weight (called x a)
+
+module _ (x : Watched) (i : Holds x) where
+  abbrev q : Pump
+  q = x .core .pump
+
+  abbrev within : Places (x .core)
+  within = i .sound .places
+
+  -- a read
+  module _ (n : ℕ) (part : List ℕ) (a : Answers x (Came n part)) where
+    abbrev came′ : List ℕ
+    came′ = x .came ++ take n part
+
+    abbrev got : Pumped
+    got = record { pump = gotOf q n (length (joined q (x .core .buf) part)); buf = joined q (x .core .buf) part; out = x .core .out }
+
+    got-places : Places got
+    unfolding gotOf
+    got-places =
+        let len = joined-length q (x .core .buf) n part (within .there) (a .1) (a .2) in
+        let many = so-many q (x .core .buf) n part (within .there) (a .1) (a .2) in
+        record { big = omega (arith, len, within .big); wide = within .wide; there = omega (arith, len, many, within .there); order = within .order; fits = within .fits }
+
+    got-input : inputIn (got .pump) (got .buf) ≡ inputIn q (x .core .buf) ++ take n part
+    unfolding gotOf
+    got-input = read-in q (x .core .buf) n part (within .there) (a .1) (a .2)
+
+    got-going : Going (x .core) (x .came) (x .written) → Going got came′ (x .written)
+    unfolding gotOf
+    got-going g =
+        record {
+          past = g .past;
+          reached = g .reached;
+          rows = g .rows;
+          text = λ future.
+              ap (λ (l : List ℕ). (x .written ++ pendingIn q (x .core .out)) ++ textAfter (g .past) (q .table .fed .number) (l ++ future)) got-input
+              ∙ ap (λ (l : List ℕ). (x .written ++ pendingIn q (x .core .out)) ++ textAfter (g .past) (q .table .fed .number) l)
+              (append-assoc (inputIn q (x .core .buf)) (take n part) future)
+              ∙ g .text (take n part ++ future)
+              ∙ ap textOf (sym (append-assoc (x .came) (take n part) future));
+        }
+
+    got-fresh : Fresh (x .core) (x .came) (x .written) → Fresh got came′ (x .written)
+    unfolding gotOf
+    got-fresh f = record { table = f .table; all = ap (λ (l : List ℕ). l ++ take n part) (f .all) ∙ sym got-input; none = f .none; idle = f .idle }
+
+    got-stage : Stage (q .over) (q .begun) got came′ (x .written)
+    got-stage =
+        let on = wants-read q (a .0) .1 in
+        let s = subst (λ (b : Bool). Stage b (q .begun) (x .core) (x .came) (x .written)) on (i .sound .stage) in
+        subst (λ (b : Bool). Stage b (q .begun) got came′ (x .written)) (sym on)
+        (split (q .begun)
+        (λ b. subst (λ (v : Bool). Stage false v got came′ (x .written)) (sym b) (got-going (subst (λ (v : Bool). Stage false v (x .core) (x .came) (x .written)) b s)))
+        (λ b. subst (λ (v : Bool). Stage false v got came′ (x .written)) (sym b) (got-fresh (subst (λ (v : Bool). Stage false v (x .core) (x .came) (x .written)) b s))))
+
+    got-after : After came′ (x .written) (q .closed || eqb n 0) (turnOf (got .pump) (got .buf) (got .out))
+    unfolding gotOf
+    got-after = turn-after came′ (x .written) (q .closed || eqb n 0) got (record { places = got-places; stage = got-stage }) refl
+
+    got-step : Stepped x (Came n part)
+    unfolding called
+    got-step =
+        let t = got-after in
+        let unended = i .settled (a .0) .1 in
+        let more = length-append (x .came) (take n part) in
+        let some = length-take-le n part (a .2) in
+        record {
+          holds = record { sound = t .sound; settled = t .settled };
+          grows =
+              split (eqb n 0)
+              (λ e. rw (t .closing, unended, e) (omega (arith, more)))
+              (λ e. rw (t .closing, unended, e) (omega (arith, more, some, eqb-false n 0 e)));
+        }
+
+  -- a write
+  module _ (n : ℕ) (a : Answers x (Took n)) where
+    abbrev written′ : List ℕ
+    written′ = x .written ++ take n (pendingIn q (x .core .out))
+
+    abbrev took : Pumped
+    took = record { pump = tookOf q n; buf = x .core .buf; out = x .core .out }
+
+    took-places : Places took
+    unfolding tookOf
+    took-places =
+        let far = so-far q (x .core .out) (within .order) (within .fits) n (a .2) in
+        let len = pending-length q (x .core .out) (within .order) (within .fits) in
+        record { big = within .big; wide = within .wide; there = within .there; order = omega (arith, far, len, a .2); fits = within .fits }
+
+    -- what was taken and what is left
+    took-text : written′ ++ pendingIn (took .pump) (took .out) ≡ x .written ++ pendingIn q (x .core .out)
+    unfolding tookOf
+    took-text =
+        append-assoc (x .written) (take n (pendingIn q (x .core .out))) _
+        ∙ ap (λ (l : List ℕ). x .written ++ l) (written-on q (x .core .out) (within .order) (within .fits) n (a .2))
+
+    took-going : Going (x .core) (x .came) (x .written) → Going took (x .came) written′
+    unfolding tookOf
+    took-going g =
+        record {
+          past = g .past;
+          reached = g .reached;
+          rows = g .rows;
+          text = λ future.
+              ap (λ (l : List ℕ). l ++ textAfter (g .past) (q .table .fed .number) (inputIn q (x .core .buf) ++ future)) took-text ∙ g .text future;
+        }
+
+    took-ended : Ended (x .core) (x .came) (x .written) → Ended took (x .came) written′
+    unfolding tookOf
+    took-ended e = record { text = λ future end. took-text ∙ e .text future end }
+
+    took-stage : Stage (q .over) (q .begun) took (x .came) written′
+    took-stage =
+        split (q .over)
+        (λ o. subst (λ (b : Bool). Stage b (q .begun) took (x .came) written′) (sym o)
+        (took-ended (subst (λ (b : Bool). Stage b (q .begun) (x .core) (x .came) (x .written)) o (i .sound .stage))))
+        (λ o.
+        let s = subst (λ (b : Bool). Stage b (q .begun) (x .core) (x .came) (x .written)) o (i .sound .stage) in
+        subst (λ (b : Bool). Stage b (q .begun) took (x .came) written′) (sym o)
+        (split (q .begun)
+        (λ b. subst (λ (v : Bool). Stage false v took (x .came) written′) (sym b) (took-going (subst (λ (v : Bool). Stage false v (x .core) (x .came) (x .written)) b s)))
+        (λ b.
+        let f : Fresh (x .core) (x .came) (x .written) = subst (λ (v : Bool). Stage false v (x .core) (x .came) (x .written)) b s in
+        absurd (omega (arith, f .idle, wants-write q (a .0))))))
+
+    took-after : After (x .came) written′ (q .closed) (turnOf (took .pump) (took .buf) (took .out))
+    unfolding tookOf
+    took-after = turn-after (x .came) written′ (q .closed) took (record { places = took-places; stage = took-stage }) refl
+
+    took-step : Stepped x (Took n)
+    unfolding called
+    took-step =
+        let t = took-after in
+        let more = length-append (x .written) (take n (pendingIn q (x .core .out))) in
+        let some = length-take-le n (pendingIn q (x .core .out)) (a .2) in
+        record { holds = record { sound = t .sound; settled = t .settled }; grows = rw (t .closing) (omega (arith, more, some, a .1)) }
+
+  step : (a : Answer) → Answers x a → Stepped x a
+  step (Came n part) a = got-step n part a
+  step (Took n) a = took-step n a
+
+  -- ---- what holds then
+  holds-right : Right x
+  holds-right =
+      record {
+        front = front-of (i .sound .stage);
+        whole = λ e future end.
+            let w = wants-nothing q e in
+            let s : Ended (x .core) (x .came) (x .written) = subst (λ (b : Bool). Stage b (q .begun) (x .core) (x .came) (x .written)) (w .1) (i .sound .stage) in
+            sym (ap (λ (l : List ℕ). x .written ++ l) (none-pending q (x .core .out) (w .0)) ∙ append-nil (x .written)) ∙ s .text future end;
+        reads = i .settled;
+        writes = λ e. omega (arith, wants-write q e, pending-length q (x .core .out) (within .order) (within .fits));
+      }
+    where
+      by-marks : (over begun : Bool) → Stage over begun (x .core) (x .came) (x .written) → (future : List ℕ) → MayCome x future → Front (x .written) (textOf (x .came ++ future))
+      by-marks true begun s future end = record { behind = pendingIn q (x .core .out); joined = s .text future end }
+      by-marks false true s future end =
+          record {
+            behind = pendingIn q (x .core .out) ++ textAfter (s .past) (q .table .fed .number) (inputIn q (x .core .buf) ++ future);
+            joined = sym (append-assoc (x .written) (pendingIn q (x .core .out)) _) ∙ s .text future;
+          }
+      by-marks false false s future end = record { behind = textOf (x .came ++ future); joined = ap (λ (l : List ℕ). l ++ textOf (x .came ++ future)) (s .none) }
+
+      front-of : Stage (q .over) (q .begun) (x .core) (x .came) (x .written) → (future : List ℕ) → MayCome x future → Front (x .written) (textOf (x .came ++ future))
+      front-of s = by-marks (q .over) (q .begun) s
+
+-- ---- every list of answers
+all-hold : (x : Watched) → Holds x → (answers : List Answer) → AllAnswer x answers → Holds (watched x answers) × (weight x + length answers ≤ weight (watched x answers))
+unfolding watched AllAnswer
+all-hold x i [] a = (i, omega arith)
+all-hold x i (b ∷ later) a =
+    let s = step x i b (a .0) in
+    let t = all-hold (called x b) (s .holds) later (a .1) in
+    (t .0, omega (arith, s .grows, t .1))
+
+first-holds : (buf out : List ℕ) → 2064 ≤ length buf → 160 ≤ length out → Holds (beginning buf out)
+unfolding beginning starting
+first-holds buf out b o =
+    record {
+      sound = record {
+        places = record { big = b; wide = o; there = omega arith; order = omega arith; fits = omega arith };
+        stage = record { table = refl; all = refl; none = refl; idle = omega arith };
+      };
+      settled = λ e. (omega (arith, b), refl);
+    }
+
+module _ (buf out : List ℕ) (b : 2064 ≤ length buf) (o : 160 ≤ length out) (answers : List Answer) (a : AllAnswer (beginning buf out) answers) where
+  -- the theorem: with a buffer for a whole record and one for a line, for every list of answers of the two calls
+  pub watch-right : Right (watched (beginning buf out) answers)
+  watch-right = holds-right (watched (beginning buf out) answers) (all-hold (beginning buf out) (first-holds buf out b o) answers a .0)
+
+  -- and no list goes on for ever: each call but the one that finds the end brings an octet of the input or takes one of its text
+  pub watch-ends : (future : List ℕ) → MayCome (watched (beginning buf out) answers) future →
+      let input = watched (beginning buf out) answers .came ++ future in length answers ≤ length input + length (textOf input) + 1
+  unfolding beginning
+  watch-ends future end =
+      let x = watched (beginning buf out) answers in
+      let f = watch-right .front future end in
+      omega (
+        arith,
+        all-hold (beginning buf out) (first-holds buf out b o) answers a .1,
+        length-append (x .came) future,
+        ap length (f .joined),
+        length-append (x .written) (f .behind),
+        bit-small (x .core .pump .closed),
+      )
