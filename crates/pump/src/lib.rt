@@ -7,6 +7,8 @@ mod turns;
 pub use failures::put_failure;
 use feed::Feeding;
 use moving::advance;
+pub use moving::part;
+pub use moving::within;
 use turns::begin;
 use turns::feed_on;
 ghost use mathlib.Core.Path.{_≡_};

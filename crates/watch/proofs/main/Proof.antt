@@ -1,4 +1,4 @@
--- `watch::main` is safe and ends: the measure is the number of turns that are left, from one that no run uses up; the buffers keep their lengths.
+-- `watch::main` is safe and ends: the measure is the number of calls that are left, from one that no run uses up; the buffers keep their lengths.
 -- Assumes nothing.
 use mathlib.Core.Path.{_≡_}
 use lib.ListN.{length}
@@ -7,19 +7,25 @@ use Rattle.watch.proofs.main.Statement.{statement}
 use Rattle.watch.proofs.main.Tie as tie
 
 abbrev Inv-loop : tie.InvT-loop
-Inv-loop buf₀ out₀ w₀ turns₀ buf out w turns = (65536 ≡ length buf) × (65536 ≡ length out)
+Inv-loop buf₀ out₀ core₀ go₀ turns₀ buf out core go turns = (65536 ≡ length buf) × (65536 ≡ length out)
 
 abbrev μ-loop : tie.MeasureT-loop
-μ-loop buf₀ out₀ w₀ turns₀ buf out w turns = turns
+μ-loop buf₀ out₀ core₀ go₀ turns₀ buf out core go turns = turns
 
 loop-holds : tie.Need-loop-holds Inv-loop μ-loop
 loop-holds c = search needs
 
-slice-aggregate-pump : tie.Need-slice-aggregate-pump Inv-loop μ-loop
-slice-aggregate-pump c = search needs
+slice-aggregate-call : tie.Need-slice-aggregate-call Inv-loop μ-loop
+slice-aggregate-call c = search needs
 
-slice-aggregate-pump-2 : tie.Need-slice-aggregate-pump-2 Inv-loop μ-loop
-slice-aggregate-pump-2 c = search needs
+slice-aggregate-call-2 : tie.Need-slice-aggregate-call-2 Inv-loop μ-loop
+slice-aggregate-call-2 c = search needs
+
+slice-aggregate-turn : tie.Need-slice-aggregate-turn Inv-loop μ-loop
+slice-aggregate-turn c = search needs
+
+slice-aggregate-turn-2 : tie.Need-slice-aggregate-turn-2 Inv-loop μ-loop
+slice-aggregate-turn-2 c = search needs
 
 loop-again : tie.Need-loop-again Inv-loop μ-loop
 loop-again c = search needs
@@ -34,8 +40,11 @@ main-spec =
     (λ c κs. tt)
     (λ c κs. tt)
     loop-holds
-    slice-aggregate-pump
-    slice-aggregate-pump-2
+    slice-aggregate-call
+    slice-aggregate-call-2
+    (λ c κs. tt)
+    slice-aggregate-turn
+    slice-aggregate-turn-2
     (λ c κs. tt)
     (λ c. search needs)
     (λ c. search needs)
