@@ -2,17 +2,17 @@
 -- Assumes nothing.
 use Prim.Native.Nat.{ℕ, _+_, _≤_, _<_}
 use native.Mathlib.Omega.{arith}
-use mathlib.Core.Path.{_≡_, refl, ap, _∙_}
+use mathlib.Core.Path.{_≡_, ap, _∙_}
 use mathlib.Core.Bool.{true, false}
-use mathlib.Core.List.{List, [], _++_, append-nil}
+use mathlib.Core.List.{List, _++_}
 use lib.Dec.{eqb, ltb, leb}
 use lib.ListN.{length, getD, length-append, List·getD-append}
-use borrow.Author.Tests.{ltb-true, ltb-false, le-ltb, eqb-true, leb-true, le-leb, eq-eqb, ne-eqb}
+use borrow.Author.Tests.{ltb-true, ltb-false, le-ltb, eqb-true, leb-true, le-leb, ne-eqb}
 use Rattle.octets.proofs.Chain.{and-both}
 use Rattle.rules.proofs.Bools.{split, no-way, or-right, refuted, true-false}
 use Rattle.capture.specs.declared.Record.{Record}
 use Rattle.capture.specs.declared.Next.the-variants.{Broken}
-use Rattle.capture.specs.Records.{headerIs, headerFits, recordIn, isBroken, nextOf, nextIn, isWhole}
+use Rattle.capture.specs.Records.{headerFits, recordIn, isBroken, nextOf, nextIn, isWhole}
 use Rattle.meaning.specs.Histories.{History}
 use Rattle.text.specs.Text.{Parsed, linesAfter, ending, textAfter}
 use Rattle.text.proofs.Parsing.{at-front, record-front, parsed-none}

@@ -2,11 +2,11 @@
 -- Assumes nothing.
 use Prim.Native.Nat.{ℕ, _≤_, _<_}
 use native.Mathlib.Omega.{arith}
-use mathlib.Core.Path.{_≡_, refl, sym, ap, _∙_}
+use mathlib.Core.Path.{_≡_, sym, ap, _∙_}
 use mathlib.Core.Bool.{Bool, true, false, cond}
 use mathlib.Core.List.{List, []}
 use lib.Dec.{ltb}
-use lib.ListN.{length, take, drop}
+use lib.ListN.{length, take}
 use lib.Seq.{sets}
 use borrow.Author.Tests.{lt-ltb, le-ltb, ltb-true, ltb-false, eq-eqb, ne-eqb}
 use Rattle.rules.proofs.Bools.{split}
@@ -15,7 +15,7 @@ use Rattle.feed.specs.declared.Feeding.{Feeding}
 use Rattle.feed.specs.Feeding.{Flow, feedOf}
 use Rattle.text.specs.Text.{cut, badHeader, ending}
 use Rattle.pump.specs.declared.Pump.{Pump}
-use Rattle.pump.specs.Pumping.{Pumped, Within, Shifted, same, lastWords, finishedOf, movedTo, atFront, linesPut, isOver, fedTo, fedOn, headerRead, isWaiting, begunOn, turnOf}
+use Rattle.pump.specs.Pumping.{Pumped, Within, Shifted, same, lastWords, finishedOf, atFront, linesPut, isOver, fedTo, fedOn, headerRead, isWaiting, headed, begunOn, isReady, fedBehind, turnOf}
 
 module _ (p : Pump) (buf out : List ℕ) (n : ℕ) (w : Within (p .have) buf n) where
   -- so many octets of input are there
@@ -62,43 +62,65 @@ module _ (p : Pump) (buf out : List ℕ) (n : ℕ) (w : Within (p .have) buf n) 
       stays o = rw (← fed, le-ltb 0 (u .fed .used) none, ← w .same-part, o)
 
   -- ---- the header
-  pub waits : isWaiting (p .closed) n ≡ true → same p buf out ≡ begunOn p buf out
-  unfolding begunOn
+  pub waits : isWaiting (p .closed) n ≡ true → same p buf out ≡ headed p buf out
+  unfolding headed
   waits e = rw (input-length, e)
 
   module _ (there : isWaiting (p .closed) n ≡ false) where
     pub wrong : headerFits (take n buf) ≡ false → (q : Pump) (out′ : List ℕ) → (q ≡ lastWords p (length badHeader)) × (out′ ≡ sets out 0 badHeader)
-        → record { pump = q; buf = buf; out = out′ } ≡ begunOn p buf out
-    unfolding begunOn finishedOf
+        → record { pump = q; buf = buf; out = out′ } ≡ headed p buf out
+    unfolding headed finishedOf
     wrong h q out′ s = rw (s .0, s .1, input-length, there, ← w .same-part, h)
 
     pub right : headerFits (take n buf) ≡ true → (have : ℕ) (buf′ : List ℕ) → Shifted buf 8 n have buf′ → (q : Pump) → q ≡ headerRead p have
-        → (x : Pumped) → x ≡ fedOn q buf′ out → x ≡ begunOn p buf out
-    unfolding begunOn
-    right h have buf′ s q e x f = f ∙ rw (e, s .count, s .moved, input-length, there, ← w .same-part, h)
+        → record { pump = q; buf = buf′; out = out } ≡ headed p buf out
+    unfolding headed
+    right h have buf′ s q e = rw (e, s .count, s .moved, input-length, there, ← w .same-part, h)
 
 -- ---- a turn
-third : {a o b : Bool} (w x y z : Pumped) → a ≡ false → o ≡ false → b ≡ true → cond a w (cond o x (cond b y z)) ≡ y
-third w x y z d e f = rw (d, e, f)
+-- by a test
+chosen : {b : Bool} (x y : Pumped) → b ≡ true → cond b x y ≡ x
+chosen x y e = rw e
 
-fourth : {a o b : Bool} (w x y z : Pumped) → a ≡ false → o ≡ false → b ≡ false → cond a w (cond o x (cond b y z)) ≡ z
-fourth w x y z d e f = rw (d, e, f)
+refused : {b : Bool} (x y : Pumped) → b ≡ false → cond b x y ≡ y
+refused x y e = rw e
 
 module _ (p : Pump) (buf out : List ℕ) where
+  -- the header is read already, or it is not
+  pub already : p .begun ≡ true → same p buf out ≡ begunOn p buf out
+  unfolding begunOn
+  already b = sym (chosen (same p buf out) (headed p buf out) b)
+
+  pub not-begun : p .begun ≡ false → headed p buf out ≡ begunOn p buf out
+  unfolding begunOn
+  not-begun b = sym (refused (same p buf out) (headed p buf out) b)
+
   pub writes-first : p .from < p .to → same p buf out ≡ turnOf p buf out
   unfolding turnOf
-  writes-first l = rw (lt-ltb (p .from) (p .to) l)
+  writes-first l = sym (chosen (same p buf out) _ (lt-ltb (p .from) (p .to) l))
 
   module _ (written : p .to ≤ p .from) where
     pub no-more : p .over ≡ true → same p buf out ≡ turnOf p buf out
     unfolding turnOf
-    no-more o = rw (le-ltb (p .from) (p .to) written, o)
+    no-more o = sym (refused (same p buf out) _ (le-ltb (p .from) (p .to) written) ∙ chosen (same p buf out) _ o)
 
-    module _ (on : p .over ≡ false) where
-      pub feeds : p .begun ≡ true → (x : Pumped) → x ≡ fedOn p buf out → x ≡ turnOf p buf out
-      unfolding turnOf
-      feeds b x e = e ∙ sym (third (same p buf out) (same p buf out) (fedOn p buf out) (begunOn p buf out) (le-ltb (p .from) (p .to) written) on b)
+    pub goes-on : p .over ≡ false → fedBehind (begunOn p buf out) ≡ turnOf p buf out
+    unfolding turnOf
+    goes-on o =
+        sym (refused (same p buf out) _ (le-ltb (p .from) (p .to) written) ∙ refused (same p buf out) (fedBehind (begunOn p buf out)) o)
 
-      pub begins : p .begun ≡ false → (x : Pumped) → x ≡ begunOn p buf out → x ≡ turnOf p buf out
-      unfolding turnOf
-      begins b x e = e ∙ sym (fourth (same p buf out) (same p buf out) (fedOn p buf out) (begunOn p buf out) (le-ltb (p .from) (p .to) written) on b)
+-- records are fed behind the header, or not
+pub feeds : (x : Pumped) → isReady (x .pump .begun) (x .pump .over) ≡ true → fedOn (x .pump) (x .buf) (x .out) ≡ fedBehind x
+unfolding fedBehind
+feeds x r = sym (chosen (fedOn (x .pump) (x .buf) (x .out)) x r)
+
+pub rests : (x : Pumped) → isReady (x .pump .begun) (x .pump .over) ≡ false → x ≡ fedBehind x
+unfolding fedBehind
+rests x r = sym (refused (fedOn (x .pump) (x .buf) (x .out)) x r)
+
+module _ (p : Pump) (buf out : List ℕ) (written : p .to ≤ p .from) (on : p .over ≡ false) (x : Pumped) (b : x ≡ begunOn p buf out) where
+  pub turn-rests : isReady (x .pump .begun) (x .pump .over) ≡ false → x ≡ turnOf p buf out
+  turn-rests r = rests x r ∙ ap fedBehind b ∙ goes-on p buf out written on
+
+  pub turn-feeds : isReady (x .pump .begun) (x .pump .over) ≡ true → (y : Pumped) → y ≡ fedOn (x .pump) (x .buf) (x .out) → y ≡ turnOf p buf out
+  turn-feeds r y e = e ∙ feeds x r ∙ ap fedBehind b ∙ goes-on p buf out written on

@@ -146,15 +146,24 @@ headerRead p have =
 abbrev pub isWaiting : Bool → ℕ → Bool
 isWaiting closed octets = not closed && ltb octets 8
 
-unfoldable pub begunOn : Pump → List ℕ → List ℕ → Pumped
-begunOn p buf out =
+unfoldable pub headed : Pump → List ℕ → List ℕ → Pumped
+headed p buf out =
     let input = inputIn p buf in
     cond (isWaiting (p .closed) (length input)) (same p buf out)
-    (cond (headerFits input) (fedOn (headerRead p (length (drop 8 input))) (movedTo buf input 8) out) (finishedOf p buf out badHeader))
+    (cond (headerFits input) (record { pump = headerRead p (length (drop 8 input)); buf = movedTo buf input 8; out = out })
+    (finishedOf p buf out badHeader))
 
--- as long as there is something to be written, nothing else is done
+unfoldable pub begunOn : Pump → List ℕ → List ℕ → Pumped
+begunOn p buf out = cond (p .begun) (same p buf out) (headed p buf out)
+
+-- the header is read, and the text is not over
+abbrev pub isReady : Bool → Bool → Bool
+isReady begun over = begun && not over
+
+unfoldable pub fedBehind : Pumped → Pumped
+fedBehind x = cond (isReady (x .pump .begun) (x .pump .over)) (fedOn (x .pump) (x .buf) (x .out)) x
+
+-- as long as there is something to be written, nothing else is done; then the header, then records
 unfoldable pub turnOf : Pump → List ℕ → List ℕ → Pumped
 turnOf p buf out =
-    cond (ltb (p .from) (p .to)) (same p buf out)
-    (cond (p .over) (same p buf out)
-    (cond (p .begun) (fedOn p buf out) (begunOn p buf out)))
+    cond (ltb (p .from) (p .to)) (same p buf out) (cond (p .over) (same p buf out) (fedBehind (begunOn p buf out)))

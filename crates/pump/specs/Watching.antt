@@ -4,7 +4,7 @@ use Prim.Native.Nat.{ℕ, _-_, _≤_, _<_}
 use mathlib.Core.Path.{_≡_}
 use mathlib.Core.Bool.{true, false}
 use mathlib.Core.List.{List, [], _∷_, _++_}
-use lib.ListN.{length, take, drop}
+use lib.ListN.{length, take}
 use Rattle.text.specs.Text.{textOf}
 use Rattle.pump.specs.declared.Wanted.the-variants.{Read, Write, Nothing}
 use Rattle.pump.specs.Pumping.{Pumped, starting, pendingIn, wantsOf, gotOf, tookOf, turnOf}

@@ -11,6 +11,7 @@ pub use moving::part;
 pub use moving::within;
 use turns::begin;
 use turns::feed_on;
+use turns::is_ready;
 ghost use mathlib.Core.Path.{_≡_};
 ghost use lib.ListN.{length};
 ghost use Rattle.pump.specs.Pumping.{starting, pendingIn, wantsOf, gotOf, tookOf, turnOf};
@@ -111,8 +112,9 @@ pub fn turn(p: Pump, buf: &mut [u8], out: &mut [u8]) -> Pump
     if p.over {
         return p;
     }
-    if p.begun {
-        return feed_on(p, buf, out);
+    let q = begin(p, &mut *buf, &mut *out);
+    if !is_ready(q.begun, q.over) {
+        return q;
     }
-    begin(p, buf, out)
+    feed_on(q, buf, out)
 }

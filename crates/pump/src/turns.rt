@@ -15,7 +15,7 @@ ghost use mathlib.Core.List.{[]};
 ghost use lib.ListN.{length};
 ghost use lib.Seq.{sets};
 ghost use Rattle.text.specs.Text.{cut};
-ghost use Rattle.pump.specs.Pumping.{lastWords, atFront, cannotMend, isOver, isWaiting, fedOn, begunOn, headerRead};
+ghost use Rattle.pump.specs.Pumping.{lastWords, atFront, cannotMend, isOver, isWaiting, fedOn, begunOn, headerRead, isReady};
 
 // The table, before the first octet of the input and of the output.
 fn at_front(t: Feeding) -> Feeding
@@ -133,9 +133,13 @@ fn behind_header(p: Pump, have: usize) -> Pump
     }
 }
 
+// The header, where it is not read yet.
 pub fn begin(p: Pump, buf: &mut [u8], out: &mut [u8]) -> Pump
     ensures { λ r. ⌜ record { pump = r; buf = now (buf .exit); out = now (out .exit) } ≡ begunOn p (now (buf .entry)) (now (out .entry)) ⌝ }
 {
+    if p.begun {
+        return p;
+    }
     let n = within(p.have, buf);
     if is_waiting(p.closed, n) {
         return p;
@@ -143,6 +147,16 @@ pub fn begin(p: Pump, buf: &mut [u8], out: &mut [u8]) -> Pump
     if !header_fits(&buf[..n]) {
         return finish(p, out, b"bad header\n");
     }
-    let have = shift(&mut *buf, 8, n);
-    feed_on(behind_header(p, have), buf, out)
+    let have = shift(buf, 8, n);
+    behind_header(p, have)
+}
+
+// The header is read, and the text is not over.
+pub fn is_ready(begun: bool, over: bool) -> bool
+    ensures { λ r. ⌜ r ≡ isReady begun over ⌝ }
+{
+    if begun {
+        return !over;
+    }
+    false
 }

@@ -2,7 +2,7 @@
 -- Assumes nothing.
 use Rattle.pump.proofs.moving.shift.Statement.{statement}
 use Rattle.pump.proofs.moving.shift.Tie as tie
-use mathlib.Core.Path.{_≡_, refl, ap, _∙_}
+use mathlib.Core.Path.{_≡_, refl, _∙_}
 use mathlib.Core.List.{List}
 use Prim.Native.Nat.{ℕ, _≤_, _<_, _+_, _-_}
 use native.Mathlib.Omega.{arith}
