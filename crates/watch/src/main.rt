@@ -9,10 +9,28 @@ use libc::STDOUT_FILENO;
 use pump::Pump;
 use pump::Wanted;
 
-// The core after a system call, and whether it goes on.
+// The core after a system call, whether the call moved anything or found the end, and whether it
+// goes on.
 struct Called {
     core: Pump,
+    moved: bool,
     go: bool,
+}
+
+fn moved(core: Pump) -> Called {
+    Called {
+        core,
+        moved: true,
+        go: true,
+    }
+}
+
+fn stayed(core: Pump, go: bool) -> Called {
+    Called {
+        core,
+        moved: false,
+        go: go,
+    }
 }
 
 fn error_number(error: i32) -> u64 {
@@ -26,13 +44,13 @@ fn error_number(error: i32) -> u64 {
 // and nothing more is done.
 fn failed(core: Pump, writing: bool, error: i32) -> Called {
     if error == EINTR {
-        return Called { core, go: true };
+        return stayed(core, true);
     }
     let number = core.table.fed.number;
     let mut line = [0u8; 128];
     let n = pump::put_failure(&mut line, writing, error_number(error), number);
     io::write_all(STDERR_FILENO, pump::part(&line, 0, n));
-    Called { core, go: false }
+    stayed(core, false)
 }
 
 // One read. None is the end of the input.
@@ -43,8 +61,7 @@ fn read_on(core: Pump, buf: &mut [u8]) -> Called {
         return failed(core, false, os::errno());
     }
     let n = io::count(got, &buf[at..]);
-    let core = pump::got(core, n, buf);
-    Called { core, go: true }
+    moved(pump::got(core, n, buf))
 }
 
 // One write. One that takes nothing gets no further: it has failed, with no error number.
@@ -58,8 +75,7 @@ fn write_on(core: Pump, out: &[u8]) -> Called {
         return failed(core, true, 0);
     }
     let n = io::count(took, part);
-    let core = pump::took(core, n);
-    Called { core, go: true }
+    moved(pump::took(core, n))
 }
 
 // The system call that is wanted.
@@ -68,7 +84,7 @@ fn call(core: Pump, buf: &mut [u8], out: &[u8]) -> Called {
     match wanted {
         Wanted::Read => read_on(core, buf),
         Wanted::Write => write_on(core, out),
-        Wanted::Nothing => Called { core, go: false },
+        Wanted::Nothing => stayed(core, false),
     }
 }
 
@@ -80,9 +96,11 @@ fn main() {
     let mut turns = u64::MAX;
     while turns > 0 && go {
         let called = call(core, &mut buf, &out);
-        let next = called.core;
-        core = pump::turn(next, &mut buf, &mut out);
+        core = called.core;
         go = called.go;
+        if called.moved {
+            core = pump::turn(core, &mut buf, &mut out);
+        }
         turns -= 1;
     }
 }

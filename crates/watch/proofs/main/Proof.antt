@@ -1,6 +1,7 @@
 -- `watch::main` is safe and ends: the measure is the number of calls that are left, from one that no run uses up; the buffers keep their lengths.
 -- Assumes nothing.
 use mathlib.Core.Path.{_≡_}
+use mathlib.Core.Logic.{⊎-elim}
 use lib.ListN.{length}
 use borrow.Author.Needs.{needs}
 use Rattle.watch.proofs.main.Statement.{statement}
@@ -28,7 +29,11 @@ slice-aggregate-turn-2 : tie.Need-slice-aggregate-turn-2 Inv-loop μ-loop
 slice-aggregate-turn-2 c = search needs
 
 loop-again : tie.Need-loop-again Inv-loop μ-loop
-loop-again c = search needs
+loop-again c =
+    ⊎-elim {C = (65536 ≡ length (c .if2 .buf)) × (65536 ≡ length (c .if2 .out))}
+    (λ k. (rw (k .6) (search needs), rw (k .7) (search needs)))
+    (λ k. (rw (k .1) (search needs), rw (k .2) (search needs)))
+    (c .if2 .came)
 
 pub main-spec : {M : Type 1} → statement M
 main-spec =
