@@ -15,7 +15,7 @@ use Rattle.rules.proofs.Bools.{split}
 use Rattle.text.specs.Text.{textAfter, textOf}
 use Rattle.pump.specs.declared.Pump.{Pump}
 use Rattle.pump.specs.Pumping.{Pumped, starting, pendingIn, gotOf, tookOf, inputIn, turnOf}
-use Rattle.pump.specs.Watching.{Answer, Came, Took, Watched, beginning, called, watched, Answers, AllAnswer, Front, MayCome, Right}
+use Rattle.pump.specs.Watching.{CallAnswer, Came, Took, Watched, beforeCalls, oneCall, watched, AnswersCall, AllAnswered, Front, MayCome, TextWritten}
 use Rattle.pump.proofs.Between.{Fresh, Going, Ended, Stage, Places, Sound, Settled, wants-read, wants-write, wants-nothing, bit-small, none-pending}
 use Rattle.pump.proofs.Keeping.{After, turn-after}
 
@@ -66,9 +66,9 @@ record Holds (x : Watched) : Type 0 where
 abbrev weight : Watched → ℕ
 weight x = length (x .came) + length (x .written) + bitOf (x .core .pump .closed)
 
-record Stepped (x : Watched) (a : Answer) : Type 0 where
-  holds : Holds (called x a)
-  grows : weight x < weight (called x a)
+record Stepped (x : Watched) (a : CallAnswer) : Type 0 where
+  holds : Holds (oneCall x a)
+  grows : weight x < weight (oneCall x a)
 
 module _ (x : Watched) (i : Holds x) where
   abbrev q : Pump
@@ -78,7 +78,7 @@ module _ (x : Watched) (i : Holds x) where
   within = i .sound .places
 
   -- a read
-  module _ (n : ℕ) (part : List ℕ) (a : Answers x (Came n part)) where
+  module _ (n : ℕ) (part : List ℕ) (a : AnswersCall x (Came n part)) where
     abbrev came′ : List ℕ
     came′ = x .came ++ take n part
 
@@ -129,7 +129,7 @@ module _ (x : Watched) (i : Holds x) where
     got-after = turn-after came′ (x .written) (q .closed || eqb n 0) got (record { places = got-places; stage = got-stage }) refl
 
     got-step : Stepped x (Came n part)
-    unfolding called
+    unfolding oneCall
     got-step =
         let t = got-after in
         let unended = i .settled (a .0) .1 in
@@ -144,7 +144,7 @@ module _ (x : Watched) (i : Holds x) where
         }
 
   -- a write
-  module _ (n : ℕ) (a : Answers x (Took n)) where
+  module _ (n : ℕ) (a : AnswersCall x (Took n)) where
     abbrev written′ : List ℕ
     written′ = x .written ++ take n (pendingIn q (x .core .out))
 
@@ -199,20 +199,20 @@ module _ (x : Watched) (i : Holds x) where
     took-after = turn-after (x .came) written′ (q .closed) took (record { places = took-places; stage = took-stage }) refl
 
     took-step : Stepped x (Took n)
-    unfolding called
+    unfolding oneCall
     took-step =
         let t = took-after in
         let more = length-append (x .written) (take n (pendingIn q (x .core .out))) in
         let some = length-take-le n (pendingIn q (x .core .out)) (a .2) in
         record { holds = record { sound = t .sound; settled = t .settled }; grows = rw (t .closing) (omega (arith, more, some, a .1)) }
 
-  step : (a : Answer) → Answers x a → Stepped x a
+  step : (a : CallAnswer) → AnswersCall x a → Stepped x a
   step (Came n part) a = got-step n part a
   step (Took n) a = took-step n a
 
   -- ---- what holds then
-  holds-right : Right x
-  holds-right =
+  holds-written : TextWritten x
+  holds-written =
       record {
         front = front-of (i .sound .stage);
         whole = λ e future end.
@@ -236,16 +236,16 @@ module _ (x : Watched) (i : Holds x) where
       front-of s = by-marks (q .over) (q .begun) s
 
 -- ---- every list of answers
-all-hold : (x : Watched) → Holds x → (answers : List Answer) → AllAnswer x answers → Holds (watched x answers) × (weight x + length answers ≤ weight (watched x answers))
-unfolding watched AllAnswer
+all-hold : (x : Watched) → Holds x → (answers : List CallAnswer) → AllAnswered x answers → Holds (watched x answers) × (weight x + length answers ≤ weight (watched x answers))
+unfolding watched AllAnswered
 all-hold x i [] a = (i, omega arith)
 all-hold x i (b ∷ later) a =
     let s = step x i b (a .0) in
-    let t = all-hold (called x b) (s .holds) later (a .1) in
+    let t = all-hold (oneCall x b) (s .holds) later (a .1) in
     (t .0, omega (arith, s .grows, t .1))
 
-first-holds : (buf out : List ℕ) → 2064 ≤ length buf → 160 ≤ length out → Holds (beginning buf out)
-unfolding beginning starting
+first-holds : (buf out : List ℕ) → 2064 ≤ length buf → 160 ≤ length out → Holds (beforeCalls buf out)
+unfolding beforeCalls starting
 first-holds buf out b o =
     record {
       sound = record {
@@ -255,21 +255,21 @@ first-holds buf out b o =
       settled = λ e. (omega (arith, b), refl);
     }
 
-module _ (buf out : List ℕ) (b : 2064 ≤ length buf) (o : 160 ≤ length out) (answers : List Answer) (a : AllAnswer (beginning buf out) answers) where
+module _ (buf out : List ℕ) (b : 2064 ≤ length buf) (o : 160 ≤ length out) (answers : List CallAnswer) (a : AllAnswered (beforeCalls buf out) answers) where
   -- the theorem: with a buffer for a whole record and one for a line, for every list of answers of the two calls
-  pub watch-right : Right (watched (beginning buf out) answers)
-  watch-right = holds-right (watched (beginning buf out) answers) (all-hold (beginning buf out) (first-holds buf out b o) answers a .0)
+  pub text-written : TextWritten (watched (beforeCalls buf out) answers)
+  text-written = holds-written (watched (beforeCalls buf out) answers) (all-hold (beforeCalls buf out) (first-holds buf out b o) answers a .0)
 
   -- and no list goes on for ever: each call but the one that finds the end brings an octet of the input or takes one of its text
-  pub watch-ends : (future : List ℕ) → MayCome (watched (beginning buf out) answers) future →
-      let input = watched (beginning buf out) answers .came ++ future in length answers ≤ length input + length (textOf input) + 1
-  unfolding beginning
+  pub watch-ends : (future : List ℕ) → MayCome (watched (beforeCalls buf out) answers) future →
+      let input = watched (beforeCalls buf out) answers .came ++ future in length answers ≤ length input + length (textOf input) + 1
+  unfolding beforeCalls
   watch-ends future end =
-      let x = watched (beginning buf out) answers in
-      let f = watch-right .front future end in
+      let x = watched (beforeCalls buf out) answers in
+      let f = text-written .front future end in
       omega (
         arith,
-        all-hold (beginning buf out) (first-holds buf out b o) answers a .1,
+        all-hold (beforeCalls buf out) (first-holds buf out b o) answers a .1,
         length-append (x .came) future,
         ap length (f .joined),
         length-append (x .written) (f .behind),

@@ -11,9 +11,9 @@ use Rattle.pump.specs.Pumping.{Pumped, starting, pendingIn, wantsOf, got
 
 -- what a system call answers. A read is lent the buffer behind the octets that are there: so many octets came, at the front of that part, which was left as
 -- it says; none is the end of the input. A write takes so many of the octets that it is handed
-pub data Answer : Type 0 where
-  Came : (octets : ℕ) (part : List ℕ) → Answer
-  Took : (octets : ℕ) → Answer
+pub data CallAnswer : Type 0 where
+  Came : (octets : ℕ) (part : List ℕ) → CallAnswer
+  Took : (octets : ℕ) → CallAnswer
 
 -- the core with its buffers, all octets that came, and all that were taken
 pub record Watched : Type 0 where
@@ -22,34 +22,34 @@ pub record Watched : Type 0 where
   pub written : List ℕ
 
 -- before the first call, with two buffers
-unfoldable pub beginning : List ℕ → List ℕ → Watched
-beginning buf out = record { core = record { pump = starting; buf = buf; out = out }; came = []; written = [] }
+unfoldable pub beforeCalls : List ℕ → List ℕ → Watched
+beforeCalls buf out = record { core = record { pump = starting; buf = buf; out = out }; came = []; written = [] }
 
 -- one call, and one turn of the core behind it
-unfoldable pub called : Watched → Answer → Watched
-called x (Came n part) =
+unfoldable pub oneCall : Watched → CallAnswer → Watched
+oneCall x (Came n part) =
     let p = x .core .pump in
     let buf = take (p .have) (x .core .buf) ++ part in
     record { core = turnOf (gotOf p n (length buf)) buf (x .core .out); came = x .came ++ take n part; written = x .written }
-called x (Took n) =
+oneCall x (Took n) =
     let p = x .core .pump in
     record { core = turnOf (tookOf p n) (x .core .buf) (x .core .out); came = x .came; written = x .written ++ take n (pendingIn p (x .core .out)) }
 
-unfoldable pub watched : Watched → List Answer → Watched
+unfoldable pub watched : Watched → List CallAnswer → Watched
 watched x [] = x
-watched x (a ∷ later) = watched (called x a) later
+watched x (a ∷ later) = watched (oneCall x a) later
 
 -- an answer to the call that is wanted: a read fills no more than its part; a write takes something, and no more than it is handed
-abbrev pub Answers : Watched → Answer → Type 0
-Answers x (Came n part) =
+abbrev pub AnswersCall : Watched → CallAnswer → Type 0
+AnswersCall x (Came n part) =
     (wantsOf (x .core .pump) ≡ Read) × (length part ≡ length (x .core .buf) - x .core .pump .have) × (n ≤ length part)
-Answers x (Took n) =
+AnswersCall x (Took n) =
     (wantsOf (x .core .pump) ≡ Write) × (1 ≤ n) × (n ≤ length (pendingIn (x .core .pump) (x .core .out)))
 
 -- each answer is one to the call that is wanted then
-unfoldable pub AllAnswer : Watched → List Answer → Type 0
-AllAnswer x [] = Unit {0}
-AllAnswer x (a ∷ later) = Answers x a × AllAnswer (called x a) later
+unfoldable pub AllAnswered : Watched → List CallAnswer → Type 0
+AllAnswered x [] = Unit {0}
+AllAnswered x (a ∷ later) = AnswersCall x a × AllAnswered (oneCall x a) later
 
 -- xs stands at the front of ys
 pub record Front (xs ys : List ℕ) : Type 0 where
@@ -61,7 +61,7 @@ abbrev pub MayCome : Watched → List ℕ → Type 0
 MayCome x future = x .core .pump .closed ≡ true → future ≡ []
 
 -- what holds after every list of answers
-pub record Right (x : Watched) : Type 0 where
+pub record TextWritten (x : Watched) : Type 0 where
   -- whatever is still to come, what was taken is a front of the text of it all
   pub front : (future : List ℕ) → MayCome x future → Front (x .written) (textOf (x .came ++ future))
   -- where nothing more is wanted, it is the whole text
