@@ -103,6 +103,8 @@ impl<R: Read> Reader<R> {
         }))
     }
 
+    /// Inlined into both modes of `watch`, so that neither pays for the other.
+    #[inline(always)]
     pub fn next_record(&mut self) -> io::Result<Next<'_>> {
         let mut head = [0; RECORD_HEAD];
         match fill(&mut self.input, &mut head)? {
@@ -127,6 +129,7 @@ impl<R: Read> Reader<R> {
 }
 
 /// Reads until the room is full or the input ends; gives the number read.
+#[inline(always)]
 fn fill(input: &mut impl Read, room: &mut [u8]) -> io::Result<usize> {
     let mut length = 0;
     while length < room.len() {

@@ -15,6 +15,7 @@ pub mod load;
 pub mod make;
 pub mod message;
 pub mod octets;
+pub mod own;
 pub mod random;
 pub mod refusal;
 pub mod session;

@@ -1,11 +1,11 @@
 //! Command line of the second implementation.
 
-use peer::{assemble, check, cover, load, make, watch};
+use peer::{assemble, check, cover, load, make, own, watch};
 use std::io::{self, BufReader, BufWriter, Write};
 use std::path::Path;
 use std::process::ExitCode;
 
-const USAGE: &str = "usage: peer watch < capture
+const USAGE: &str = "usage: peer watch [--own-table] < capture
        peer make SEED > capture
        peer assemble TEXT > capture
        peer check N [--program PATH]
@@ -33,6 +33,10 @@ fn run(words: &[&str]) -> io::Result<ExitCode> {
         ["watch"] => {
             let input = BufReader::with_capacity(BUFFER, io::stdin().lock());
             print(|output| watch::watch(input, output))
+        }
+        ["watch", "--own-table"] => {
+            let input = BufReader::with_capacity(BUFFER, io::stdin().lock());
+            print(|output| own::watch(input, output))
         }
         ["make", seed] => {
             let capture = make::capture(number(seed)?);

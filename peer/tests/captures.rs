@@ -1,7 +1,7 @@
 //! The captures that stand in the repository, and the texts they are made of.
 
 use peer::assemble::{answers, assemble};
-use peer::watch;
+use peer::{own, watch};
 use std::fs;
 use std::path::PathBuf;
 
@@ -54,8 +54,9 @@ fn the_captures_are_what_their_texts_say() {
 #[test]
 fn the_lines_are_what_this_program_prints() {
     for name in names("capture") {
-        let printed = watch::text(&octets(&name, "capture"));
-        assert_eq!(printed, octets(&name, "lines"), "{name}");
+        let (capture, lines) = (octets(&name, "capture"), octets(&name, "lines"));
+        assert_eq!(watch::text(&capture), lines, "{name}");
+        assert_eq!(own::text(&capture), lines, "{name}, own table");
     }
 }
 

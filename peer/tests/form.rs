@@ -4,12 +4,8 @@ mod common;
 
 use common::*;
 use peer::capture::{append_head, Kind, Record, HEADER};
-use peer::{make, watch};
+use peer::{make, own, watch};
 use std::io::Read;
-
-fn text(octets: &[u8]) -> String {
-    String::from_utf8(watch::text(octets)).unwrap()
-}
 
 #[test]
 fn a_header_alone_prints_nothing() {
@@ -103,7 +99,8 @@ fn pieces_make_no_difference() {
         let capture = make::capture(seed);
         let mut output = Vec::new();
         watch::watch(Drops(&capture), &mut output).unwrap();
-        assert!(output == watch::text(&capture));
+        own::watch(Drops(&capture), &mut output).unwrap();
+        assert!(output == watch::text(&capture).repeat(2));
     }
 }
 

@@ -4,7 +4,7 @@
 #![allow(dead_code)]
 
 use peer::capture::{open_body, Kind, Record, HEADER};
-use peer::watch;
+use peer::{own, watch};
 
 pub const LABEL: u32 = 100;
 pub const DISCRIMINATOR: u32 = 17;
@@ -19,6 +19,13 @@ pub const UP: u8 = 3;
 
 pub const AIS: u8 = 1;
 pub const LKR: u8 = 2;
+
+/// The text that both modes of `watch` print for a capture.
+pub fn text(octets: &[u8]) -> String {
+    let text = watch::text(octets);
+    assert!(own::text(octets) == text, "the two modes differ");
+    String::from_utf8(text).unwrap()
+}
 
 /// A capture in the making.
 pub struct Capture {
@@ -83,7 +90,7 @@ impl Capture {
     }
 
     pub fn text(&self) -> String {
-        String::from_utf8(watch::text(&self.octets)).unwrap()
+        text(&self.octets)
     }
 
     /// Compares the printed text, given line by line.
