@@ -38,7 +38,7 @@ impl Kind {
         Kind::WriteCv,
     ];
 
-    fn from_number(number: u16) -> Option<Kind> {
+    pub fn from_number(number: u16) -> Option<Kind> {
         Kind::ALL.get(usize::from(number)).copied()
     }
 
@@ -103,8 +103,6 @@ impl<R: Read> Reader<R> {
         }))
     }
 
-    /// Inlined into both modes of `watch`, so that neither pays for the other.
-    #[inline(always)]
     pub fn next_record(&mut self) -> io::Result<Next<'_>> {
         let mut head = [0; RECORD_HEAD];
         match fill(&mut self.input, &mut head)? {
@@ -129,7 +127,6 @@ impl<R: Read> Reader<R> {
 }
 
 /// Reads until the room is full or the input ends; gives the number read.
-#[inline(always)]
 fn fill(input: &mut impl Read, room: &mut [u8]) -> io::Result<usize> {
     let mut length = 0;
     while length < room.len() {

@@ -34,10 +34,7 @@ fn run(words: &[&str]) -> io::Result<ExitCode> {
             let input = BufReader::with_capacity(BUFFER, io::stdin().lock());
             print(|output| watch::watch(input, output))
         }
-        ["watch", "--own-table"] => {
-            let input = BufReader::with_capacity(BUFFER, io::stdin().lock());
-            print(|output| own::watch(input, output))
-        }
+        ["watch", "--own-table"] => print(|output| own::watch(io::stdin().lock(), output)),
         ["make", seed] => {
             let capture = make::capture(number(seed)?);
             print(|output| output.write_all(&capture))

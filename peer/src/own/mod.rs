@@ -4,10 +4,12 @@
 //! sessions are those of the plain `watch`, and so is its text.
 
 mod index;
+mod input;
 mod line;
 mod table;
 
-use crate::capture::{Next, Reader};
+use crate::capture::Next;
+use input::Input;
 use line::Line;
 use std::io::{self, Read, Write};
 use table::Table;
@@ -15,14 +17,14 @@ use table::Table;
 /// Reads a capture and prints the answers, to the end or to the first record
 /// that cannot be read.
 pub fn watch(input: impl Read, output: &mut impl Write) -> io::Result<()> {
-    let Some(mut reader) = Reader::start(input)? else {
+    let Some(mut capture) = Input::start(input)? else {
         return output.write_all(b"bad header\n");
     };
     let mut table = Table::new();
     let mut line = Line::new();
     let mut number: u64 = 0;
     loop {
-        match reader.next_record()? {
+        match capture.next_record()? {
             Next::End => return Ok(()),
             Next::Cut => return output.write_all(b"cut\n"),
             Next::Record(record) => {
