@@ -78,7 +78,7 @@ module _ (x : Watched) (i : Holds x) where
   within = i .sound .places
 
   -- a read
-  module _ (n : ℕ) (part : List ℕ) (a : AnswersCall x (Came n part)) where
+  module _ (n : ℕ) (part : List ℕ) (a : AnswersCall (x .core) (Came n part)) where
     abbrev came′ : List ℕ
     came′ = x .came ++ take n part
 
@@ -144,7 +144,7 @@ module _ (x : Watched) (i : Holds x) where
         }
 
   -- a write
-  module _ (n : ℕ) (a : AnswersCall x (Took n)) where
+  module _ (n : ℕ) (a : AnswersCall (x .core) (Took n)) where
     abbrev written′ : List ℕ
     written′ = x .written ++ take n (pendingIn q (x .core .out))
 
@@ -206,7 +206,7 @@ module _ (x : Watched) (i : Holds x) where
         let some = length-take-le n (pendingIn q (x .core .out)) (a .2) in
         record { holds = record { sound = t .sound; settled = t .settled }; grows = rw (t .closing) (omega (arith, more, some, a .1)) }
 
-  step : (a : CallAnswer) → AnswersCall x a → Stepped x a
+  step : (a : CallAnswer) → AnswersCall (x .core) a → Stepped x a
   step (Came n part) a = got-step n part a
   step (Took n) a = took-step n a
 
@@ -243,6 +243,17 @@ all-hold x i (b ∷ later) a =
     let s = step x i b (a .0) in
     let t = all-hold (oneCall x b) (s .holds) later (a .1) in
     (t .0, omega (arith, s .grows, t .1))
+
+-- one answer more
+pub watched-more : (x : Watched) (answers : List CallAnswer) (a : CallAnswer) → watched x (answers ++ a ∷ []) ≡ oneCall (watched x answers) a
+unfolding watched
+watched-more x [] a = refl
+watched-more x (b ∷ later) a = watched-more (oneCall x b) later a
+
+pub answered-more : (x : Watched) (answers : List CallAnswer) (a : CallAnswer) → AllAnswered x answers → AnswersCall (watched x answers .core) a → AllAnswered x (answers ++ a ∷ [])
+unfolding watched AllAnswered
+answered-more x [] a h k = (k, tt)
+answered-more x (b ∷ later) a h k = (h .0, answered-more (oneCall x b) later a (h .1) k)
 
 first-holds : (buf out : List ℕ) → 2064 ≤ length buf → 160 ≤ length out → Holds (beforeCalls buf out)
 unfolding beforeCalls starting

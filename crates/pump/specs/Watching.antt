@@ -25,31 +25,40 @@ pub record Watched : Type 0 where
 unfoldable pub beforeCalls : List ℕ → List ℕ → Watched
 beforeCalls buf out = record { core = record { pump = starting; buf = buf; out = out }; came = []; written = [] }
 
+-- the core and its buffers with the answer of a call, before the core's turn
+abbrev pub withAnswer : Pumped → CallAnswer → Pumped
+withAnswer x (Came n part) =
+    let buf = take (x .pump .have) (x .buf) ++ part in
+    record { pump = gotOf (x .pump) n (length buf); buf = buf; out = x .out }
+withAnswer x (Took n) = record { pump = tookOf (x .pump) n; buf = x .buf; out = x .out }
+
+-- the core's turn
+abbrev pub turnedOn : Pumped → Pumped
+turnedOn x = turnOf (x .pump) (x .buf) (x .out)
+
 -- one call, and one turn of the core behind it
 unfoldable pub oneCall : Watched → CallAnswer → Watched
-oneCall x (Came n part) =
-    let p = x .core .pump in
-    let buf = take (p .have) (x .core .buf) ++ part in
-    record { core = turnOf (gotOf p n (length buf)) buf (x .core .out); came = x .came ++ take n part; written = x .written }
+oneCall x (Came n part) = record { core = turnedOn (withAnswer (x .core) (Came n part)); came = x .came ++ take n part; written = x .written }
 oneCall x (Took n) =
-    let p = x .core .pump in
-    record { core = turnOf (tookOf p n) (x .core .buf) (x .core .out); came = x .came; written = x .written ++ take n (pendingIn p (x .core .out)) }
+    record {
+      core = turnedOn (withAnswer (x .core) (Took n));
+      came = x .came;
+      written = x .written ++ take n (pendingIn (x .core .pump) (x .core .out));
+    }
 
 unfoldable pub watched : Watched → List CallAnswer → Watched
 watched x [] = x
 watched x (a ∷ later) = watched (oneCall x a) later
 
 -- an answer to the call that is wanted: a read fills no more than its part; a write takes something, and no more than it is handed
-abbrev pub AnswersCall : Watched → CallAnswer → Type 0
-AnswersCall x (Came n part) =
-    (wantsOf (x .core .pump) ≡ Read) × (length part ≡ length (x .core .buf) - x .core .pump .have) × (n ≤ length part)
-AnswersCall x (Took n) =
-    (wantsOf (x .core .pump) ≡ Write) × (1 ≤ n) × (n ≤ length (pendingIn (x .core .pump) (x .core .out)))
+abbrev pub AnswersCall : Pumped → CallAnswer → Type 0
+AnswersCall x (Came n part) = (wantsOf (x .pump) ≡ Read) × (length part ≡ length (x .buf) - x .pump .have) × (n ≤ length part)
+AnswersCall x (Took n) = (wantsOf (x .pump) ≡ Write) × (1 ≤ n) × (n ≤ length (pendingIn (x .pump) (x .out)))
 
 -- each answer is one to the call that is wanted then
 unfoldable pub AllAnswered : Watched → List CallAnswer → Type 0
 AllAnswered x [] = Unit {0}
-AllAnswered x (a ∷ later) = AnswersCall x a × AllAnswered (oneCall x a) later
+AllAnswered x (a ∷ later) = AnswersCall (x .core) a × AllAnswered (oneCall x a) later
 
 -- xs stands at the front of ys
 pub record Front (xs ys : List ℕ) : Type 0 where
