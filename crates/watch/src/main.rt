@@ -8,6 +8,15 @@ use libc::STDIN_FILENO;
 use libc::STDOUT_FILENO;
 use pump::Pump;
 use pump::Wanted;
+ghost use Prim.Native.Nat.{ℕ};
+ghost use mathlib.Core.Path.{_≡_};
+ghost use mathlib.Core.Bool.{true, false};
+ghost use mathlib.Core.List.{List};
+ghost use lib.ListN.{length};
+ghost use Rattle.libc.specs.Io.{Moved};
+ghost use Rattle.pump.specs.declared.Wanted.the-variants.{Read, Write};
+ghost use Rattle.pump.specs.Pumping.{wantsOf};
+ghost use Rattle.watch.specs.Calls.{Failed, AfterRead, AfterWrite, CallMade, Reached};
 
 // The core after a system call, whether the call moved anything or found the end, and whether it
 // goes on.
@@ -17,7 +26,9 @@ struct Called {
     go: bool,
 }
 
-fn moved(core: Pump) -> Called {
+fn moved(core: Pump) -> Called
+    ensures { λ r. ⌜ r ≡ record { core = core; moved = true; go = true } ⌝ }
+{
     Called {
         core,
         moved: true,
@@ -25,7 +36,9 @@ fn moved(core: Pump) -> Called {
     }
 }
 
-fn stayed(core: Pump, go: bool) -> Called {
+fn stayed(core: Pump, go: bool) -> Called
+    ensures { λ r. ⌜ r ≡ record { core = core; moved = false; go = go } ⌝ }
+{
     Called {
         core,
         moved: false,
@@ -42,7 +55,9 @@ fn error_number(error: i32) -> u64 {
 
 // A call that was only interrupted is made again. Of any other that failed standard error is told,
 // and nothing more is done.
-fn failed(core: Pump, writing: bool, error: i32) -> Called {
+fn failed(core: Pump, writing: bool, error: i32) -> Called
+    ensures { λ r. ⌜ Failed core r ⌝ }
+{
     if error == EINTR {
         return stayed(core, true);
     }
@@ -53,21 +68,24 @@ fn failed(core: Pump, writing: bool, error: i32) -> Called {
     stayed(core, false)
 }
 
-// One read. None is the end of the input.
-fn read_on(core: Pump, buf: &mut [u8]) -> Called {
-    let at = pump::within(core.have, buf);
-    let got = libc::read(STDIN_FILENO, &mut buf[at..]);
+// What one read answered. None is the end of the input.
+fn after_read(core: Pump, got: isize, buf: &[u8]) -> Called
+    requires { ⌜ Moved (length (now buf)) got ⌝ }
+    ensures { λ r. ⌜ AfterRead core (length (now (buf .entry))) got r ⌝ }
+{
     if got < 0 {
         return failed(core, false, os::errno());
     }
-    let n = io::count(got, &buf[at..]);
+    let n = io::count(got, buf);
     moved(pump::got(core, n, buf))
 }
 
-// One write. One that takes nothing gets no further: it has failed, with no error number.
-fn write_on(core: Pump, out: &[u8]) -> Called {
-    let part = pump::pending(core, out);
-    let took = libc::write(STDOUT_FILENO, part);
+// What one write answered. One that takes nothing gets no further: it has failed, with no error
+// number.
+fn after_write(core: Pump, took: isize, part: &[u8]) -> Called
+    requires { ⌜ Moved (length (now part)) took ⌝ }
+    ensures { λ r. ⌜ AfterWrite core took r ⌝ }
+{
     if took < 0 {
         return failed(core, true, os::errno());
     }
@@ -78,8 +96,30 @@ fn write_on(core: Pump, out: &[u8]) -> Called {
     moved(pump::took(core, n))
 }
 
+// One read, behind the octets that are there.
+fn read_on(core: Pump, buf: &mut [u8]) -> Called
+    requires { ⌜ wantsOf core ≡ Read ⌝ }
+    ensures { λ r. ⌜ ((out : List ℕ) → CallMade (record { pump = core; buf = now (buf .entry); out = out }) r (now (buf .exit))) ⌝ }
+{
+    let at = pump::within(core.have, buf);
+    let got = libc::read(STDIN_FILENO, &mut buf[at..]);
+    after_read(core, got, buf)
+}
+
+// One write, of what is still to be written.
+fn write_on(core: Pump, out: &[u8]) -> Called
+    requires { ⌜ wantsOf core ≡ Write ⌝ }
+    ensures { λ r. ⌜ ((buf : List ℕ) → CallMade (record { pump = core; buf = buf; out = now (out .entry) }) r buf) ⌝ }
+{
+    let part = pump::pending(core, out);
+    let took = libc::write(STDOUT_FILENO, part);
+    after_write(core, took, part)
+}
+
 // The system call that is wanted.
-fn call(core: Pump, buf: &mut [u8], out: &[u8]) -> Called {
+fn call(core: Pump, buf: &mut [u8], out: &[u8]) -> Called
+    ensures { λ r. ⌜ CallMade (record { pump = core; buf = now (buf .entry); out = now (out .entry) }) r (now (buf .exit)) ⌝ }
+{
     let wanted = pump::wants(core);
     match wanted {
         Wanted::Read => read_on(core, buf),
@@ -88,19 +128,28 @@ fn call(core: Pump, buf: &mut [u8], out: &[u8]) -> Called {
     }
 }
 
-fn main() {
-    let mut buf = io::large_buffer();
-    let mut out = io::large_buffer();
+// Call by call, each with the core's turn behind it, until nothing more is wanted or a call fails. No
+// run uses up the number of calls.
+fn run(buf: &mut [u8], out: &mut [u8]) -> Pump
+    ensures { λ r. ⌜ Reached (now (buf .entry)) (now (out .entry)) (record { pump = r; buf = now (buf .exit); out = now (out .exit) }) ⌝ }
+{
     let mut core = pump::start();
     let mut go = true;
     let mut turns = u64::MAX;
     while turns > 0 && go {
-        let called = call(core, &mut buf, &out);
+        let called = call(core, &mut *buf, &*out);
         core = called.core;
         go = called.go;
         if called.moved {
-            core = pump::turn(core, &mut buf, &mut out);
+            core = pump::turn(core, &mut *buf, &mut *out);
         }
         turns -= 1;
     }
+    core
+}
+
+fn main() {
+    let mut buf = io::large_buffer();
+    let mut out = io::large_buffer();
+    run(&mut buf, &mut out);
 }
