@@ -12,6 +12,7 @@ use borrow.Author.Tests.{eqb-true, eq-eqb, ne-eqb}
 use Rattle.octets.specs.Choice.{bitOf}
 use Rattle.octets.proofs.Chain.{and-both, bar-passed, orElse-passed}
 use Rattle.message.specs.Message.{messageRefusal, messageOf}
+use Rattle.message.proofs.Read.{read-in-range}
 use Rattle.rules.specs.declared.Key.{Key}
 use Rattle.rules.specs.Times.{late}
 use Rattle.rules.specs.Conditions.{sameKey}
@@ -31,8 +32,7 @@ use Rattle.meaning.proofs.Conditions.{condition-accounted}
 use Rattle.meaning.proofs.Losses.{loss-accounted}
 use Rattle.meaning.specs.Worlds.{Right}
 use Rattle.meaning.proofs.Places.{keys-once, stands-has, stands-alike}
-use Rattle.meaning.proofs.Read.{read-good}
-use Rattle.meaning.proofs.Fits.{good-told}
+use Rattle.meaning.proofs.Fits.{told-in-range}
 
 bit-true : (b : Bool) → bitOf b ≡ 1 → b ≡ true
 bit-true true e = refl
@@ -137,5 +137,5 @@ accepted-read (after h d a) r p l m t (inr w) = accepted-read h (r .0) p l m t w
 pub condition-fresh : (h : History) → Right h → (l now p : ℕ) (key : Key) (a : AccountsForCondition h l key now p) → now < a .reading + 70000000
 condition-fresh h r l now p key a =
     let m = a .message .message in
-    let g = good-told (messageOf (m .0)) (a .settings) (a .fault) (m .2) (read-good (m .0) (accepted-read h r p l (m .0) (a .reading) (m .1))) in
+    let g = told-in-range (messageOf (m .0)) (a .settings) (a .fault) (m .2) (read-in-range (m .0) (accepted-read h r p l (m .0) (a .reading) (m .1))) in
     omega (arith, a .fresh, g .3)

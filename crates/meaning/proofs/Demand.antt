@@ -15,8 +15,9 @@ use Rattle.rules.specs.Calls.{Call, On, ReportOn, Said, isAccepted, numberOnly,
 use Rattle.rules.proofs.Bools.{split, no-way}
 use Rattle.rules.proofs.Lists.{any-at, numbers-alike}
 use Rattle.session.specs.declared.Session.{Session}
+use Rattle.session.specs.Soundness.{sessionSound}
 use Rattle.table.specs.Places.{opens}
-use Rattle.table.specs.Table.{Table, openOf, sameLabel, sameDiscriminator, find, asked, answer, next, emptied}
+use Rattle.table.specs.Table.{Table, openOf, sameLabel, sameDiscriminator, every, find, asked, answer, next, emptied}
 use Rattle.table.proofs.Rows.{found-is}
 use Rattle.meaning.specs.Stories.{Story, settingsOf}
 use Rattle.meaning.specs.Standing.{report}
@@ -67,9 +68,12 @@ in-step-start row e =
     let none′ = opens-none row in
     record {
       clock = refl;
-      rows = e;
-      labels = ap (once sameLabel) none′;
-      discriminators = ap (once sameDiscriminator) none′;
+      ordered = record {
+        rows = e;
+        sound = ap (every (λ r. sessionSound r 0)) none′;
+        labels = ap (once sameLabel) none′;
+        discriminators = ap (once sameDiscriminator) none′;
+      };
       fit = λ l. subst (λ (o : Option Session). Fit 0 o none) (sym (ap (find l) none′)) tt;
       count = ap length none′;
       listed = λ l. refl;
@@ -139,7 +143,7 @@ no-shared h t S l m s u p q e =
     let same : a .0 .settings .discriminator ≡ b .0 .settings .discriminator =
     ap (λ (g : Settings). g .discriminator) (a .2 .settings) ∙ e ∙ sym (ap (λ (g : Settings). g .discriminator) (b .2 .settings)) in
     let one : a .0 ≡ b .0 =
-    one-each sameDiscriminator (λ v w. numbers-alike .back (v .settings .discriminator) (w .settings .discriminator)) (openOf t) (a .0) (b .0) (S .discriminators) (x .0) (y .0)
+    one-each sameDiscriminator (λ v w. numbers-alike .back (v .settings .discriminator) (w .settings .discriminator)) (openOf t) (a .0) (b .0) (S .ordered .discriminators) (x .0) (y .0)
     (eq-eqb (a .0 .settings .discriminator) (b .0 .settings .discriminator) same) in
     sym (x .1) ∙ ap (λ (r : Session). r .settings .label) one ∙ y .1
 
@@ -175,8 +179,8 @@ demand3 row e cs =
       once-each = G .in-step .once-each;
       unshared = no-shared (w .past) (w .table) (G .in-step);
       row-open = λ l. fit-open (clockOf (w .past)) (find l (openOf (w .table))) (story l (w .past)) (G .in-step .fit l);
-      row-labels = G .in-step .labels;
-      row-discriminators = G .in-step .discriminators;
+      row-labels = G .in-step .ordered .labels;
+      row-discriminators = G .in-step .ordered .discriminators;
       row-count = same-count (G .in-step);
     }
   where

@@ -15,6 +15,7 @@ use Rattle.fault.specs.declared.Fault.{Fault}
 use Rattle.cv.specs.MepId.{sameMepId}
 use Rattle.message.specs.declared.Message.{Message}
 use Rattle.message.specs.declared.Message.the-variants.{ContinuityCheck, ConnectivityVerification, FaultManagement}
+use Rattle.message.proofs.Read.{InRange}
 use Rattle.rules.specs.declared.Settings.{Settings}
 use Rattle.rules.specs.declared.State.{State}
 use Rattle.rules.specs.declared.State.the-variants.{AdminDown, Down, NeighborDown, Init, Up}
@@ -43,7 +44,6 @@ use Rattle.meaning.specs.Stories.{Story, opened, lock, unlock, got, wrot
 use Rattle.meaning.specs.Standing.{locked, crossing, timedFrom, multiplierOf, multiplierBy, loss, state, stateBy, stateAt, remoteDiagnostic, diagnosticBy, remoteOf, remoteBy, owed, owedBy, conditions, followed, report, diagnostic, packet, ccWritten, cvWritten}
 use Rattle.meaning.specs.Answers.{receivedNumber}
 use Rattle.meaning.proofs.Places.{Kept, kept-opened, kept-later, kept-lock, kept-unlock, kept-wrote, kept-crossed, kept-cc, kept-cv, kept-fault, kept-count, kept-followed, kept-crowded}
-use Rattle.meaning.proofs.Read.{Good}
 
 -- no input locks or unlocks a session
 moved-locked : (s : State) (i : Input) → isLocked (moved s i) ≡ isLocked s
@@ -247,30 +247,30 @@ fits-wrote {now} {r} {s} f =
     }
 
 -- a heard CC was a good CC, and a fault message a good one
-good-heard : (m : Message) (g : Settings) (p : Packet) → receivedAs g m ≡ HeardCc p → Good m → (1 ≤ p .multiplier) × (p .diagnostic ≤ 31) × (p .my ≡ 0 → ⊥)
+heard-in-range : (m : Message) (g : Settings) (p : Packet) → receivedAs g m ≡ HeardCc p → InRange m → (1 ≤ p .multiplier) × (p .diagnostic ≤ 31) × (p .my ≡ 0 → ⊥)
 unfolding receivedAs
-good-heard (ContinuityCheck q) g p e k =
+heard-in-range (ContinuityCheck q) g p e k =
     split (foreign (g .discriminator) (q .your))
     (λ z. absurd (let w : CrossedMessage ≡ HeardCc p = rw z at e in let y : _≡_ {A = ℕ} 0 1 = cc in omega arith))
     (λ z. let w : HeardCc q ≡ HeardCc p = rw z at e in let same : q ≡ p = cc in
     subst (λ (y : Packet). (1 ≤ y .multiplier) × (y .diagnostic ≤ 31) × (y .my ≡ 0 → ⊥)) same k)
-good-heard (ConnectivityVerification q id) g p e k =
+heard-in-range (ConnectivityVerification q id) g p e k =
     split (foreign (g .discriminator) (q .your) || not (sameMepId id (g .expected)))
     (λ z. absurd (let w : CrossedMessage ≡ HeardCc p = rw z at e in let y : _≡_ {A = ℕ} 0 1 = cc in omega arith))
     (λ z. absurd (let w : HeardCv ≡ HeardCc p = rw z at e in let y : _≡_ {A = ℕ} 0 1 = cc in omega arith))
-good-heard (FaultManagement x) g p e k = absurd (let y : _≡_ {A = ℕ} 0 1 = cc in omega arith)
+heard-in-range (FaultManagement x) g p e k = absurd (let y : _≡_ {A = ℕ} 0 1 = cc in omega arith)
 
-pub good-told : (m : Message) (g : Settings) (f : Fault) → receivedAs g m ≡ FaultMessage f → Good m → (f .kind ≡ 0 → ⊥) × (f .kind ≤ 2) × (1 ≤ f .refresh) × (f .refresh ≤ 20)
+pub told-in-range : (m : Message) (g : Settings) (f : Fault) → receivedAs g m ≡ FaultMessage f → InRange m → (f .kind ≡ 0 → ⊥) × (f .kind ≤ 2) × (1 ≤ f .refresh) × (f .refresh ≤ 20)
 unfolding receivedAs
-good-told (ContinuityCheck q) g f e k =
+told-in-range (ContinuityCheck q) g f e k =
     split (foreign (g .discriminator) (q .your))
     (λ z. absurd (let w : CrossedMessage ≡ FaultMessage f = rw z at e in let y : _≡_ {A = ℕ} 0 1 = cc in omega arith))
     (λ z. absurd (let w : HeardCc q ≡ FaultMessage f = rw z at e in let y : _≡_ {A = ℕ} 0 1 = cc in omega arith))
-good-told (ConnectivityVerification q id) g f e k =
+told-in-range (ConnectivityVerification q id) g f e k =
     split (foreign (g .discriminator) (q .your) || not (sameMepId id (g .expected)))
     (λ z. absurd (let w : CrossedMessage ≡ FaultMessage f = rw z at e in let y : _≡_ {A = ℕ} 0 1 = cc in omega arith))
     (λ z. absurd (let w : HeardCv ≡ FaultMessage f = rw z at e in let y : _≡_ {A = ℕ} 0 1 = cc in omega arith))
-good-told (FaultManagement x) g f e k =
+told-in-range (FaultManagement x) g f e k =
     let same : x ≡ f = cc in
     subst (λ (y : Fault). (y .kind ≡ 0 → ⊥) × (y .kind ≤ 2) × (1 ≤ y .refresh) × (y .refresh ≤ 20)) same k
 
@@ -364,8 +364,8 @@ module _ {now : ℕ} (m : Message) (u : ℕ) {r : Session} {s : Story} (h : now 
       }
 
   -- a received message that is accepted
-  pub fits-got : (x : Received) → wasTo s m ≡ x → Good m → receivedAnswer r u x ≡ 0 → Fits u (receivedBy r u x) (got s m u)
+  pub fits-got : (x : Received) → wasTo s m ≡ x → InRange m → receivedAnswer r u x ≡ 0 → Fits u (receivedBy r u x) (got s m u)
   fits-got CrossedMessage e g a = fits-crossed e
-  fits-got (HeardCc p) e g a = fits-heard-cc p e (good-heard m (settingsOf s) p e g)
+  fits-got (HeardCc p) e g a = fits-heard-cc p e (heard-in-range m (settingsOf s) p e g)
   fits-got HeardCv e g a = fits-heard-cv e
-  fits-got (FaultMessage x) e g a = fits-fault x e a (good-told m (settingsOf s) x e g)
+  fits-got (FaultMessage x) e g a = fits-fault x e a (told-in-range m (settingsOf s) x e g)

@@ -5,7 +5,6 @@ pub mod Conditions
 pub mod LossPositions
 pub mod Losses
 pub mod Places
-pub mod Read
 pub mod Fits
 pub mod Sim
 pub mod Numbers

@@ -1,43 +1,45 @@
 -- The table and the history: what both say, call by call.
 -- Assumes nothing.
-use Prim.Native.Nat.{ℕ, suc, _+_, _-_, _^_, _≤_, _<_}
+use Prim.Native.Nat.{ℕ, suc, _≤_}
 use native.Mathlib.Omega.{arith}
 use mathlib.Core.Path.{_≡_, refl, sym, ap, _∙_, subst}
-use mathlib.Core.Bool.{Bool, true, false, cond, not, _&&_, _||_}
+use mathlib.Core.Bool.{Bool, true, false, cond, _||_}
 use mathlib.Core.Option.{Option, none, some, Option·map}
 use mathlib.Core.List.{List, [], _∷_, List·Memᴰ}
 use mathlib.Core.Logic.{⊎-elim}
-use lib.Dec.{ltb, eqb}
-use lib.ListN.{length, getD, set, length-set}
-use borrow.Author.Tests.{eqb-true, eqb-false, eq-eqb, ne-eqb, ltb-false, not-true}
+use lib.Dec.{eqb}
+use lib.ListN.{length, getD, set}
+use borrow.Author.Tests.{eqb-true, eq-eqb}
 use Rattle.octets.specs.Choice.{need, bar, orElse}
 use Rattle.octets.specs.Writing.{writing}
-use Rattle.octets.proofs.Chain.{and-both, need-passed, bar-passed, orElse-passed}
+use Rattle.octets.proofs.Chain.{bar-passed, orElse-passed}
 use Rattle.message.specs.Message.{messageRefusal, messageOf}
+use Rattle.message.proofs.Read.{read-in-range}
 use Rattle.rules.specs.declared.Settings.{Settings}
-use Rattle.rules.specs.declared.Received.{Received}
-use Rattle.rules.specs.declared.Received.the-variants.{CrossedMessage, HeardCc, HeardCv, FaultMessage}
 use Rattle.rules.specs.Times.{late}
 use Rattle.rules.specs.Settings.{settingsFit}
 use Rattle.rules.specs.Received.{receivedAs}
 use Rattle.rules.specs.Lists.{any, once, without}
 use Rattle.rules.specs.Calls.{Act, Close, Lock, Unlock, Receive, ReportOn, WriteCc, WriteCv, Call, Tick, Open, On, Said, isAccepted, numberOnly, reporting, writes}
-use Rattle.rules.proofs.Bools.{split, no-way, both-true, or-cases, or-left, or-right, same-test, refuted, true-false}
-use Rattle.rules.proofs.Lists.{Inserted, any-inserted, length-inserted, once-inserted, any-at, any-who, any-same, Alike, numbers-alike, any-without-other, any-without-same, once-without, length-without, once-cons}
+use Rattle.rules.proofs.Bools.{split, no-way, or-cases, or-left, or-right, same-test}
+use Rattle.rules.proofs.Ages.{not-late}
+use Rattle.rules.proofs.Lists.{length-inserted, any-at, any-who, any-same, numbers-alike, any-without-other, any-without-same, once-without, length-without, once-cons}
 use Rattle.session.specs.declared.Session.{Session}
 use Rattle.session.specs.Steps as Steps
 use Rattle.session.specs.Queries.{reportAt, ccOctetsAt, cvOctetsAt}
-use Rattle.session.specs.Reception.{receivedAnswer, receivedBy}
-use Rattle.session.specs.Soundness.{sessionSound}
-use Rattle.table.specs.Places.{lowestFree, occupiedOf, opens, hasLabel, placeOf}
-use Rattle.table.specs.Table.{Table, openOf, receiveAnswer, reportAnswer, writeAnswer, sameLabel, sameDiscriminator, every, inOrder, find, isFound, rivals, openAnswer, actAnswer, asked, answer, altered, added, closed, receiving, actDone, done, next, absent}
-use Rattle.table.proofs.Rows.{update, opens-altered, opens-added, opens-closed, count-opens, free-exists, find-update-same, find-update-other, once-update, length-update, found-is, none-found, none-there, find-inserted-own, find-inserted-other, found-own}
+use Rattle.session.specs.Reception.{receivedAnswer}
+use Rattle.session.proofs.Received.{received-keeps}
+use Rattle.table.specs.Places.{occupiedOf, opens, hasLabel, placeOf}
+use Rattle.table.specs.Table.{Table, openOf, receiveAnswer, reportAnswer, writeAnswer, sameLabel, inOrder, find, isFound, rivals, openAnswer, actAnswer, asked, answer, altered, added, closed, receiving, actDone, done, next, absent}
+use Rattle.table.proofs.Rows.{opens-altered, count-opens, find-update-same, find-update-other, length-update, found-is, none-found, none-there, find-inserted-own, find-inserted-other, found-own}
+use Rattle.table.proofs.Apart.{added-one, closed-one, no-label, closed-apart}
+use Rattle.table.proofs.Accepted.{OpenPassed, open-passed, found-passed}
+use Rattle.table.proofs.Order.{Ordered, says-order, act-ordered, done-ordered}
 use Rattle.meaning.specs.Stories.{Story, opened, lock, unlock, got, wroteCc, settingsOf}
 use Rattle.meaning.specs.Standing.{ccWritten, cvWritten}
 use Rattle.meaning.specs.Histories.{actReading, reading, more, actTold, told, actLabels, labelsAfter}
 use Rattle.meaning.specs.Answers.{receivedNumber, receiveNumber, reportSaid, writeSaid, isOpen, hasDiscriminator, rival, full, openNumber, actSaid, saysOf}
 use Rattle.meaning.proofs.Fits.{Fits, same-report, same-cc, same-cv, same-received, fits-later, fits-opened, fits-locked, fits-unlocked, fits-wrote, fits-got}
-use Rattle.meaning.proofs.Read.{read-good}
 
 -- a record for a story, or neither
 abbrev pub Fit : ℕ → Option Session → Option Story → Type 0
@@ -49,29 +51,11 @@ Fit now (some r) (some s) = Fits now r s
 -- the table, and the three views of the history
 pub record Sim (now : ℕ) (st : ℕ → Option Story) (ls : List ℕ) (t : Table) : Type 0 where
   pub clock : t .clock ≡ now
-  pub rows : length (t .row) ≡ 64
-  pub labels : once sameLabel (openOf t) ≡ true
-  pub discriminators : once sameDiscriminator (openOf t) ≡ true
+  pub ordered : Ordered t
   pub fit : (l : ℕ) → Fit now (find l (openOf t)) (st l)
   pub count : length (openOf t) ≡ length ls
   pub listed : (l : ℕ) → any (eqb l) ls ≡ isOpen (st l)
   pub once-each : once eqb ls ≡ true
-
-label-alike : Alike sameLabel
-label-alike =
-    record {
-      itself = λ a. numbers-alike .itself (a .settings .label);
-      back = λ a b. numbers-alike .back (a .settings .label) (b .settings .label);
-      through = λ a b c p q. numbers-alike .through (a .settings .label) (b .settings .label) (c .settings .label) p q;
-    }
-
-discriminator-alike : Alike sameDiscriminator
-discriminator-alike =
-    record {
-      itself = λ a. numbers-alike .itself (a .settings .discriminator);
-      back = λ a b. numbers-alike .back (a .settings .discriminator) (b .settings .discriminator);
-      through = λ a b c p q. numbers-alike .through (a .settings .discriminator) (b .settings .discriminator) (c .settings .discriminator) p q;
-    }
 
 pub fit-open : (now : ℕ) (o : Option Session) (p : Option Story) → Fit now o p → isFound o ≡ isOpen p
 fit-open now none none f = refl
@@ -97,11 +81,6 @@ fit-later later h (some r) (some s) f = fits-later later h f
 bar-same : (b : Bool) {x y : ℕ} → (b ≡ false → x ≡ y) → bar b 1 x ≡ bar b 1 y
 bar-same true h = refl
 bar-same false h = h refl
-
--- a reading that is not late is not below the clock
-pub not-late : (now u : ℕ) → late now u ≡ false → now ≤ u
-unfolding late
-not-late now u e = ltb-false u now (refuted (ltb u now) (λ z. true-false (or-left _ z) e))
 
 module _ (now : ℕ) where
   same-receive : (o : Option Session) (p : Option Story) → Fit now o p → (m : List ℕ) (u : ℕ) → now ≤ u → receiveAnswer o m u ≡ receiveNumber p m u
@@ -137,21 +116,11 @@ module _ {now : ℕ} {st : ℕ → Option Story} {ls : List ℕ} {t : Table} (S 
   pub owned : (r : Session) → List·Memᴰ r (openOf t) → (s : Story) × (st (r .settings .label) ≡ some s) × Fits now r s
   owned r m =
       fit-story (st (r .settings .label))
-      (subst (λ (o : Option Session). Fit now o (st (r .settings .label))) (found-own (openOf t) r (S .labels) m) (S .fit (r .settings .label)))
-
-  all-sound : every (λ (r : Session). sessionSound r (t .clock)) (openOf t) ≡ true
-  all-sound =
-      rw
-      (refuted (any (λ (r : Session). not (sessionSound r (t .clock))) (openOf t))
-      (λ e.
-      let w = any-who (λ (r : Session). not (sessionSound r (t .clock))) (openOf t) e in
-      let f = owned (w .0) (w .1) in
-      true-false (ap (sessionSound (w .0)) (S .clock) ∙ f .2 .sound) (not-true _ (w .2))))
+      (subst (λ (o : Option Session). Fit now o (st (r .settings .label))) (found-own (openOf t) r (S .ordered .labels) m) (S .fit (r .settings .label)))
 
   -- never 26
   pub sim-order : inOrder t ≡ true
-  unfolding inOrder
-  sim-order = both-true (both-true (both-true (eq-eqb (length (t .row)) 64 (S .rows)) all-sound) (S .labels)) (S .discriminators)
+  sim-order = says-order t (S .ordered)
 
   -- 11: the records' rivals are the stories'
   rival-there : (g : Settings) → any (rivals g) (openOf t) ≡ true → rival st ls g ≡ true
@@ -195,7 +164,7 @@ module _ {now : ℕ} {st : ℕ → Option Story} {ls : List ℕ} {t : Table} (S 
 
   -- 12: the places and the open labels
   pub same-count : occupiedOf 64 (t .occupied) ≡ length ls
-  same-count = ap (λ (n : ℕ). occupiedOf n (t .occupied)) (sym (S .rows)) ∙ sym (count-opens (t .occupied) (t .row)) ∙ S .count
+  same-count = ap (λ (n : ℕ). occupiedOf n (t .occupied)) (sym (S .ordered .rows)) ∙ sym (count-opens (t .occupied) (t .row)) ∙ S .count
 
   same-open : (g : Settings) (u : ℕ) → openAnswer t g u ≡ openNumber now st ls g u
   unfolding openAnswer openNumber
@@ -222,13 +191,11 @@ module _ {now : ℕ} {st : ℕ → Option Story} {ls : List ℕ} {t : Table} (S 
   sim-asked (On l a) = same-act l a (find l (openOf t)) (st l) (S .fit l)
 
   -- a reading that goes on
-  pub sim-tick : (u : ℕ) → now ≤ u → Sim u st ls (record { row = t .row; clock = u; occupied = t .occupied })
-  sim-tick u h =
+  sim-tick : (u : ℕ) → now ≤ u → Ordered (record { row = t .row; clock = u; occupied = t .occupied }) → Sim u st ls (record { row = t .row; clock = u; occupied = t .occupied })
+  sim-tick u h o =
       record {
         clock = refl;
-        rows = S .rows;
-        labels = S .labels;
-        discriminators = S .discriminators;
+        ordered = o;
         fit = λ l. fit-later u h (find l (openOf t)) (st l) (S .fit l);
         count = S .count;
         listed = S .listed;
@@ -236,24 +203,15 @@ module _ {now : ℕ} {st : ℕ → Option Story} {ls : List ℕ} {t : Table} (S 
       }
 
   -- a record altered with its story
-  sim-altered : (l u : ℕ) → now ≤ u → (f : Session → Session) → ((r : Session) → f r .settings ≡ r .settings) → (tell : Option Story → Option Story)
+  sim-altered : (l u : ℕ) → now ≤ u → (f : Session → Session) → Ordered (altered t l f u) → ((r : Session) → f r .settings ≡ r .settings) → (tell : Option Story → Option Story)
       → ((o : Option Story) → isOpen (tell o) ≡ isOpen o) → Fit u (Option·map f (find l (openOf t))) (tell (st l))
       → Sim u (λ m. cond (eqb l m) (tell (st m)) (st m)) ls (altered t l f u)
   unfolding altered
-  sim-altered l u h f k tell same e =
+  sim-altered l u h f o k tell same e =
       let alike = opens-altered l f absent (t .occupied) (t .row) in
       record {
         clock = refl;
-        rows = simp length-set (S .rows);
-        labels =
-            ap (once sameLabel) alike
-            ∙ once-update sameLabel l f (openOf t) (λ a b. ap (λ (x : Settings). eqb (x .label) (b .settings .label)) (k a)) (λ a b. ap (λ (x : Settings). eqb (a .settings .label) (x .label)) (k b))
-            ∙ S .labels;
-        discriminators =
-            ap (once sameDiscriminator) alike
-            ∙ once-update sameDiscriminator l f (openOf t) (λ a b. ap (λ (x : Settings). eqb (x .discriminator) (b .settings .discriminator)) (k a))
-            (λ a b. ap (λ (x : Settings). eqb (a .settings .discriminator) (x .discriminator)) (k b))
-            ∙ S .discriminators;
+        ordered = o;
         fit = λ m. split (eqb l m)
             (λ q. rw q
             (subst (λ (n : ℕ). Fit u (find n (opens (t .occupied) (set (t .row) (placeOf l (t .occupied) (t .row)) (f (getD (t .row) (placeOf l (t .occupied) (t .row)) absent))))) (tell (st n)))
@@ -266,72 +224,48 @@ module _ {now : ℕ} {st : ℕ → Option Story} {ls : List ℕ} {t : Table} (S 
         once-each = S .once-each;
       }
 
-  -- no open record has the label or the discriminator of settings without a rival
-  no-label : (g : Settings) → any (rivals g) (openOf t) ≡ false → any (hasLabel (g .label)) (openOf t) ≡ false
-  no-label g e =
-      refuted (any (hasLabel (g .label)) (openOf t))
-      (λ z. let w = any-who (hasLabel (g .label)) (openOf t) z in true-false (any-at (rivals g) (w .1) (or-left _ (w .2))) e)
-
-  no-discriminator : (g : Settings) (r : Session) → r .settings ≡ g → any (rivals g) (openOf t) ≡ false → any (sameDiscriminator r) (openOf t) ≡ false
-  no-discriminator g r k e =
-      refuted (any (sameDiscriminator r) (openOf t))
-      (λ z.
-      let w = any-who (sameDiscriminator r) (openOf t) z in
-      true-false
-      (any-at (rivals g) (w .1)
-      (or-right (eqb (w .0 .settings .label) (g .label))
-      (numbers-alike .back (w .0 .settings .discriminator) (g .discriminator) ∙ ap (λ (x : Settings). eqb (x .discriminator) (w .0 .settings .discriminator)) (sym k) ∙ w .2)))
-      e)
-
   label-free : (g : Settings) → any (rivals g) (openOf t) ≡ false → any (eqb (g .label)) ls ≡ false
   label-free g e =
       S .listed (g .label) ∙ sym (fit-open now (find (g .label) (openOf t)) (st (g .label)) (S .fit (g .label)))
-      ∙ ap isFound (none-found (g .label) (openOf t) (no-label g e))
+      ∙ ap isFound (none-found (g .label) (openOf t) (no-label g (openOf t) e))
 
-  sim-added : (g : Settings) (u : ℕ) → now ≤ u → settingsFit g ≡ true → any (rivals g) (openOf t) ≡ false → (occupiedOf 64 (t .occupied) ≡ 64 → ⊥)
-      → Sim u (λ m. told m (Open g u) (st m)) (g .label ∷ ls) (added t g u)
+  sim-added : (g : Settings) (u : ℕ) → OpenPassed t g u → Ordered (added t g u) → Sim u (λ m. told m (Open g u) (st m)) (g .label ∷ ls) (added t g u)
   unfolding added Steps.newSession any
-  sim-added g u h ok free room =
-      let n = Steps.newSession g u in
-      let i : Inserted n (openOf t) (openOf (added t g u)) = opens-added n 64 (t .occupied) (t .row) (S .rows) (free-exists 64 (t .occupied) room) in
-      let unlike : any (sameLabel n) (openOf t) ≡ false =
-      any-same (sameLabel n) (hasLabel (g .label)) (λ r. numbers-alike .back (g .label) (r .settings .label)) (openOf t) ∙ no-label g free in
+  sim-added g u p o =
+      let i = added-one t g u (S .ordered .rows) (p .room) in
+      let h : now ≤ u = omega (arith, S .clock, p .in-time) in
+      let free = no-label g (openOf t) (p .unrivalled) in
       record {
         clock = refl;
-        rows = simp length-set (S .rows);
-        labels = once-inserted sameLabel label-alike i ∙ (λ j. not (unlike j) && S .labels j);
-        discriminators = once-inserted sameDiscriminator discriminator-alike i ∙ (λ j. not (no-discriminator g n refl free j) && S .discriminators j);
+        ordered = o;
         fit = λ m. split (eqb (g .label) m)
             (λ q. rw q
             (subst (λ (k : ℕ). Fit u (find k (openOf (added t g u))) (some (opened g u))) (eqb-true (g .label) m q)
-            (subst (λ (o : Option Session). Fit u o (some (opened g u))) (sym (find-inserted-own i (no-label g free))) (fits-opened g u ok))))
+            (subst (λ (o : Option Session). Fit u o (some (opened g u))) (sym (find-inserted-own i free)) (fits-opened g u (p .fit)))))
             (λ q. rw q
             (subst (λ (o : Option Session). Fit u o (st m)) (sym (find-inserted-other m i q)) (fit-later u h (find m (openOf t)) (st m) (S .fit m))));
         count = length-inserted i ∙ ap suc (S .count);
         listed = λ m. split (eqb (g .label) m)
             (λ q. rw (q, numbers-alike .back m (g .label) ∙ q))
             (λ q. rw (q, numbers-alike .back m (g .label) ∙ q) (S .listed m));
-        once-each = once-cons eqb numbers-alike (g .label) ls (label-free g free) (S .once-each);
+        once-each = once-cons eqb numbers-alike (g .label) ls (label-free g (p .unrivalled)) (S .once-each);
       }
 
-  sim-closed : (l u : ℕ) (r : Session) → now ≤ u → find l (openOf t) ≡ some r
+  sim-closed : (l u : ℕ) (r : Session) → now ≤ u → find l (openOf t) ≡ some r → Ordered (closed t l u)
       → Sim u (λ m. told m (On l (Close u)) (st m)) (without eqb l ls) (closed t l u)
   unfolding closed
-  sim-closed l u r h e =
-      let rest = opens (t .occupied - 2 ^ placeOf l (t .occupied) (t .row)) (t .row) in
-      let i : Inserted r rest (openOf t) = opens-closed l (t .occupied) (t .row) r e in
+  sim-closed l u r h e o =
+      let rest = openOf (closed t l u) in
+      let i = closed-one t l u r e in
       let label : r .settings .label ≡ l = found-is l (openOf t) r e .1 in
-      let a = and-both (not (any (sameLabel r) rest)) (once sameLabel rest) (sym (once-inserted sameLabel label-alike i) ∙ S .labels) in
-      let d = and-both (not (any (sameDiscriminator r) rest)) (once sameDiscriminator rest) (sym (once-inserted sameDiscriminator discriminator-alike i) ∙ S .discriminators) in
       let gone : any (hasLabel l) rest ≡ false =
-      any-same (hasLabel l) (sameLabel r) (λ x. numbers-alike .back (x .settings .label) l ∙ ap (λ (k : ℕ). eqb k (x .settings .label)) (sym label)) rest ∙ not-true _ (a .0) in
+      any-same (hasLabel l) (sameLabel r) (λ x. numbers-alike .back (x .settings .label) l ∙ ap (λ (k : ℕ). eqb k (x .settings .label)) (sym label)) rest
+      ∙ closed-apart (λ s. s .label) r i (S .ordered .labels) .0 in
       let there′ : any (eqb l) ls ≡ true =
       S .listed l ∙ sym (fit-open now (find l (openOf t)) (st l) (S .fit l)) ∙ ap isFound e in
       record {
         clock = refl;
-        rows = S .rows;
-        labels = a .1;
-        discriminators = d .1;
+        ordered = o;
         fit = λ m. split (eqb l m)
             (λ q. rw q (subst (λ (o : Option Session). Fit u o none) (sym (ap (λ (k : ℕ). find k rest) (sym (eqb-true l m q)) ∙ none-found l rest gone)) tt))
             (λ q. rw q
@@ -359,29 +293,18 @@ fit-receive m u h (some r) none e a = absurd e
 fit-receive m u h (some r) (some s) e a =
     let x = receivedAs (r .settings) (messageOf m) in
     let b = orElse-passed (messageRefusal m) (receivedAnswer r u x) a in
-    fits-got (messageOf m) u h e x (ap (λ (g : Settings). receivedAs g (messageOf m)) (sym (e .settings))) (read-good m (b .0)) (b .1)
+    fits-got (messageOf m) u h e x (ap (λ (g : Settings). receivedAs g (messageOf m)) (sym (e .settings))) (read-in-range m (b .0)) (b .1)
 
 pub more-open : (g : Story → Story) (o : Option Story) → isOpen (more g o) ≡ isOpen o
 more-open g none = refl
 more-open g (some s) = refl
-
-receiving-keeps : (m : List ℕ) (u : ℕ) (r : Session) → receiving m u r .settings ≡ r .settings
-receiving-keeps m u r = go (receivedAs (r .settings) (messageOf m))
-  where
-    go : (x : Received) → receivedBy r u x .settings ≡ r .settings
-    go CrossedMessage = unfold Steps.crossedAt in refl
-    go (HeardCc p) = unfold Steps.heardCc in refl
-    go HeardCv = unfold Steps.heardCv in refl
-    go (FaultMessage f) = unfold Steps.faultTaken in refl
 
 -- stories that are the same, label by label
 pub sim-same : {now : ℕ} {st st′ : ℕ → Option Story} {ls : List ℕ} {t : Table} → ((m : ℕ) → st m ≡ st′ m) → Sim now st ls t → Sim now st′ ls t
 sim-same {now} {st} {st′} {ls} {t} e S =
     record {
       clock = S .clock;
-      rows = S .rows;
-      labels = S .labels;
-      discriminators = S .discriminators;
+      ordered = S .ordered;
       fit = λ m. subst (λ (p : Option Story). Fit now (find m (openOf t)) p) (e m) (S .fit m);
       count = S .count;
       listed = λ m. S .listed m ∙ ap isOpen (e m);
@@ -392,53 +315,40 @@ both-same : (b : Bool) {o : Option Story} → o ≡ cond b o o
 both-same true = refl
 both-same false = refl
 
--- a found record, from the answer that asks for one
-pub found-some : (o : Option Session) → isFound o ≡ true → (r : Session) × (o ≡ some r)
-found-some none e = no-way e refl
-found-some (some r) e = (r, refl)
-
 module _ {now : ℕ} {st : ℕ → Option Story} {ls : List ℕ} {t : Table} (S : Sim now st ls t) where
-  in-time : (u : ℕ) → late (t .clock) u ≡ false → now ≤ u
-  in-time u e = not-late now u (ap (λ (k : ℕ). late k u) (sym (S .clock)) ∙ e)
+  in-time : (u : ℕ) → t .clock ≤ u → now ≤ u
+  in-time u h = omega (arith, S .clock)
 
   -- what an accepted call leaves
   act-done : (l : ℕ) (a : Act) → isAccepted (actAnswer (t .clock) (find l (openOf t)) l a) ≡ true
       → Sim (actReading a now) (λ m. told m (On l a) (st m)) (actLabels l a ls) (actDone t l a)
   unfolding actAnswer actDone
   act-done l (Close u) e =
-      let b = bar-passed (late (t .clock) u) 0 (need (isFound (find l (openOf t))) 2 0) (eqb-true _ 0 e) in
-      let c = need-passed (isFound (find l (openOf t))) 1 0 (b .1) in
-      let r = found-some (find l (openOf t)) (c .0) in
-      sim-closed S l u (r .0) (in-time u (b .0)) (r .1)
+      let p = found-passed (t .clock) u (find l (openOf t)) (eqb-true _ 0 e) in
+      sim-closed S l u (p .1 .0) (in-time u (p .0)) (p .1 .1) (act-ordered t (S .ordered) l (Close u) e)
   act-done l (Lock u) e =
-      let b = bar-passed (late (t .clock) u) 0 (need (isFound (find l (openOf t))) 2 0) (eqb-true _ 0 e) in
-      let h = in-time u (b .0) in
-      sim-altered S l u h Steps.lockedBy (λ r. unfold Steps.lockedBy in refl) (more (λ s. lock s u)) (more-open (λ s. lock s u))
+      let h = in-time u (found-passed (t .clock) u (find l (openOf t)) (eqb-true _ 0 e) .0) in
+      sim-altered S l u h Steps.lockedBy (act-ordered t (S .ordered) l (Lock u) e) (λ r. unfold Steps.lockedBy in refl) (more (λ s. lock s u)) (more-open (λ s. lock s u))
       (fit-map u Steps.lockedBy (λ s. lock s u) (λ r s f. fits-locked u h f) (find l (openOf t)) (st l) (S .fit l))
   act-done l (Unlock u) e =
-      let b = bar-passed (late (t .clock) u) 0 (need (isFound (find l (openOf t))) 2 0) (eqb-true _ 0 e) in
-      let h = in-time u (b .0) in
-      sim-altered S l u h (λ r. Steps.unlockedAt r u) (λ r. unfold Steps.unlockedAt in refl) (more (λ s. unlock s u)) (more-open (λ s. unlock s u))
+      let h = in-time u (found-passed (t .clock) u (find l (openOf t)) (eqb-true _ 0 e) .0) in
+      sim-altered S l u h (λ r. Steps.unlockedAt r u) (act-ordered t (S .ordered) l (Unlock u) e) (λ r. unfold Steps.unlockedAt in refl) (more (λ s. unlock s u)) (more-open (λ s. unlock s u))
       (fit-map u (λ r. Steps.unlockedAt r u) (λ s. unlock s u) (λ r s f. fits-unlocked u h f) (find l (openOf t)) (st l) (S .fit l))
   act-done l (Receive m u) e =
       let b = bar-passed (late (t .clock) u) 0 (receiveAnswer (find l (openOf t)) m u) (eqb-true _ 0 e) in
-      let h = in-time u (b .0) in
-      sim-altered S l u h (receiving m u) (receiving-keeps m u) (more (λ s. got s (messageOf m) u)) (more-open (λ s. got s (messageOf m) u))
+      let h = in-time u (not-late (t .clock) u (b .0)) in
+      sim-altered S l u h (receiving m u) (act-ordered t (S .ordered) l (Receive m u) e) (λ r. received-keeps r u (receivedAs (r .settings) (messageOf m))) (more (λ s. got s (messageOf m) u)) (more-open (λ s. got s (messageOf m) u))
       (fit-receive m u h (find l (openOf t)) (st l) (S .fit l) (b .1))
   act-done l ReportOn e = sim-same (λ m. both-same (eqb l m)) S
   act-done l (WriteCc b) e =
       subst (λ (k : ℕ). Sim now (λ m. told m (On l (WriteCc b)) (st m)) ls (altered t l Steps.replySettled k)) (sym (S .clock))
-      (sim-altered S l now (omega arith) Steps.replySettled (λ r. unfold Steps.replySettled in refl) (more wroteCc) (more-open wroteCc)
+      (sim-altered S l now (omega arith) Steps.replySettled
+      (subst (λ (k : ℕ). Ordered (altered t l Steps.replySettled k)) (S .clock) (act-ordered t (S .ordered) l (WriteCc b) e)) (λ r. unfold Steps.replySettled in refl) (more wroteCc) (more-open wroteCc)
       (fit-map now Steps.replySettled wroteCc (λ r s f. fits-wrote f) (find l (openOf t)) (st l) (S .fit l)))
   act-done l (WriteCv b) e = sim-same (λ m. both-same (eqb l m)) S
 
   pub sim-done : (c : Call) → isAccepted (asked t c) ≡ true → Sim (reading c now) (λ m. told m c (st m)) (labelsAfter c ls) (done t c)
-  unfolding asked done openAnswer
-  sim-done (Tick u) e = sim-tick S u (in-time u (bar-passed (late (t .clock) u) 0 0 (eqb-true _ 0 e) .0))
-  sim-done (Open g u) e =
-      let b = bar-passed (late (t .clock) u) 0 (need (settingsFit g) 10 (bar (any (rivals g) (openOf t)) 11 (bar (eqb (occupiedOf 64 (t .occupied)) 64) 12 0))) (eqb-true _ 0 e) in
-      let c = need-passed (settingsFit g) 9 (bar (any (rivals g) (openOf t)) 11 (bar (eqb (occupiedOf 64 (t .occupied)) 64) 12 0)) (b .1) in
-      let d = bar-passed (any (rivals g) (openOf t)) 10 (bar (eqb (occupiedOf 64 (t .occupied)) 64) 12 0) (c .1) in
-      let f = bar-passed (eqb (occupiedOf 64 (t .occupied)) 64) 11 0 (d .1) in
-      sim-added S g u (in-time u (b .0)) (c .0) (d .0) (eqb-false _ 64 (f .0))
+  unfolding asked done
+  sim-done (Tick u) e = sim-tick S u (in-time u (not-late (t .clock) u (bar-passed (late (t .clock) u) 0 0 (eqb-true _ 0 e) .0))) (done-ordered t (S .ordered) (Tick u) e)
+  sim-done (Open g u) e = sim-added S g u (open-passed t g u (eqb-true _ 0 e)) (done-ordered t (S .ordered) (Open g u) e)
   sim-done (On l a) e = act-done l a e

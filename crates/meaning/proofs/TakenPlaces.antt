@@ -8,25 +8,19 @@ use mathlib.Core.Option.{some}
 use mathlib.Core.List.{List, [], _∷_}
 use lib.ListN.{length, getD}
 use lib.Seq.{getD-set-same, getD-set-other}
-use lib.Dec.{eqb}
-use borrow.Author.Tests.{eqb-false, eq-eqb}
-use Rattle.octets.specs.Choice.{need, bar}
-use Rattle.octets.proofs.Chain.{need-passed, bar-passed}
+use borrow.Author.Tests.{eq-eqb}
 use Rattle.rules.specs.declared.Settings.{Settings}
-use Rattle.rules.specs.Times.{late}
-use Rattle.rules.specs.Settings.{settingsFit}
-use Rattle.rules.specs.Lists.{any}
 use Rattle.rules.specs.Calls.{Close, Open, On, Said}
 use Rattle.rules.proofs.Bools.{split}
 use Rattle.session.specs.declared.Session.{Session}
 use Rattle.session.specs.Steps.{newSession}
 use Rattle.table.specs.Places.{firstOn, lowestFree, occupiedOf, occupiedAt, withPlace, withoutPlace, opens, hasLabel, placeOf}
-use Rattle.table.specs.Table.{Table, openOf, rivals, find, isFound, openAnswer, actAnswer, asked, answer, added, closed, actDone, done, next}
+use Rattle.table.specs.Table.{Table, openOf, find, actAnswer, asked, answer, added, closed, actDone, done, next}
 use Rattle.table.proofs.OccupiedSet.{at-zero, at-suc, lowest-is-free, below-lowest, with-here, with-elsewhere, with-lowest, without-taken, without-here, without-elsewhere}
 use Rattle.table.proofs.Rows.{free-exists, found-is}
+use Rattle.table.proofs.Accepted.{open-passed, found-passed}
 use Rattle.meaning.specs.Histories.{History}
 use Rattle.meaning.specs.Further.{TakesLowest, GivesBack}
-use Rattle.meaning.proofs.Sim.{found-some}
 use Rattle.meaning.proofs.Demand.{InStep, was-asked}
 
 -- 1. An open takes the lowest free place.
@@ -48,26 +42,17 @@ takes-lowest t g u e room =
       other-records = λ i d r. getD-set-other (t .row) p i (newSession g u) r d;
     }
 
--- an open that is answered 0 found a place
-open-room : (t : Table) (g : Settings) (u : ℕ) → asked t (Open g u) .number ≡ 0 → occupiedOf 64 (t .occupied) ≡ 64 → ⊥
-unfolding asked openAnswer
-open-room t g u e =
-    let full = eqb (occupiedOf 64 (t .occupied)) 64 in
-    let b = bar-passed (late (t .clock) u) 0 (need (settingsFit g) 10 (bar (any (rivals g) (openOf t)) 11 (bar full 12 0))) e in
-    let c = need-passed (settingsFit g) 9 (bar (any (rivals g) (openOf t)) 11 (bar full 12 0)) (b .1) in
-    let d = bar-passed (any (rivals g) (openOf t)) 10 (bar full 12 0) (c .1) in
-    eqb-false (occupiedOf 64 (t .occupied)) 64 (bar-passed full 11 0 (d .1) .0)
-
 open-done : (t : Table) (g : Settings) (u : ℕ) → answer t (Open g u) .number ≡ 0 → next t (Open g u) ≡ added t g u
 unfolding next done
 open-done t g u e = rw (eq-eqb (answer t (Open g u) .number) 0 e)
 
 pub opens-lowest : (h : History) (t : Table) → InStep h t → (g : Settings) (u : ℕ) → answer t (Open g u) .number ≡ 0
     → (p : ℕ) × TakesLowest t (next t (Open g u)) g p
+unfolding asked
 opens-lowest h t S g u e =
-    let room = open-room t g u (ap (λ (a : Said). a .number) (sym (was-asked h t S (Open g u))) ∙ e) in
+    let room = open-passed t g u (ap (λ (a : Said). a .number) (sym (was-asked h t S (Open g u))) ∙ e) .room in
     let p = lowestFree 64 (t .occupied) in
-    (p, subst (λ (x : Table). TakesLowest t x g p) (sym (open-done t g u e)) (takes-lowest t g u (S .rows) room))
+    (p, subst (λ (x : Table). TakesLowest t x g p) (sym (open-done t g u e)) (takes-lowest t g u (S .ordered .rows) room))
 
 -- 2. A close gives back the place of its label's record.
 
@@ -114,9 +99,7 @@ gives-back t l u r e f =
 -- a close that is answered 0 found its record
 close-found : (t : Table) (l u : ℕ) → asked t (On l (Close u)) .number ≡ 0 → (r : Session) × (find l (openOf t) ≡ some r)
 unfolding asked actAnswer
-close-found t l u e =
-    let b = bar-passed (late (t .clock) u) 0 (need (isFound (find l (openOf t))) 2 0) e in
-    found-some (find l (openOf t)) (need-passed (isFound (find l (openOf t))) 1 0 (b .1) .0)
+close-found t l u e = found-passed (t .clock) u (find l (openOf t)) e .1
 
 close-done : (t : Table) (l u : ℕ) → answer t (On l (Close u)) .number ≡ 0 → next t (On l (Close u)) ≡ closed t l u
 unfolding next done actDone
@@ -127,4 +110,4 @@ pub closes-place : (h : History) (t : Table) → InStep h t → (l u : ℕ) → 
 closes-place h t S l u e =
     let r = close-found t l u (ap (λ (a : Said). a .number) (sym (was-asked h t S (On l (Close u)))) ∙ e) in
     let p = placeOf l (t .occupied) (t .row) in
-    (p, subst (λ (x : Table). GivesBack t x l p) (sym (close-done t l u e)) (gives-back t l u (r .0) (S .rows) (r .1)))
+    (p, subst (λ (x : Table). GivesBack t x l p) (sym (close-done t l u e)) (gives-back t l u (r .0) (S .ordered .rows) (r .1)))

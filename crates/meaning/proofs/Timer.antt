@@ -23,7 +23,7 @@ use Rattle.rules.specs.Conditions.{actsOn, faultState, faultInput}
 use Rattle.rules.specs.Settings.{settingsFit}
 use Rattle.rules.specs.Calls.{Act, Close, Lock, Unlock, Receive, ReportOn, WriteCc, WriteCv, Call, Tick, Open, On, Said, isAccepted}
 use Rattle.rules.proofs.Bools.{split, both-true}
-use Rattle.rules.proofs.Ages.{past-later}
+use Rattle.rules.proofs.Ages.{not-late, past-later}
 use Rattle.rules.proofs.States.{timer-twice}
 use Rattle.meaning.specs.Stories.{Story, opened, lock, unlock, got, wroteCc, settingsOf, wasTo, isHeard}
 use Rattle.meaning.specs.Standing.{locked, timedFrom, multiplierOf, multiplierBy, loss, state, stateBy, stateAt}
@@ -31,7 +31,6 @@ use Rattle.meaning.specs.Histories.{History, start, after, actReading, r
 use Rattle.meaning.specs.Answers.{isOpen, rival, full, openNumber, receiveNumber, actSaid, saysOf, says}
 use Rattle.meaning.specs.Timer.{timed, acted, afterCall, eagerState, shown}
 use Rattle.meaning.specs.Worlds.{Right}
-use Rattle.meaning.proofs.Sim.{not-late}
 
 -- nothing is past at the reading that it is timed from
 past-none : (u span : ℕ) → past u span u ≡ false

@@ -2,3 +2,4 @@ pub mod Unsound
 pub mod Settling
 pub mod Sound
 pub mod Written
+pub mod Received
