@@ -1,6 +1,5 @@
--- The system calls of `watch`, each as one of the loop of which `pump` proves what is written. No contract of a system call says which octets it moves: of
--- a read and of a write only the number that they answer is known. So that the octets that came are those of the input, and that those taken are written, is
--- what the two calls themselves do.
+-- The system calls of `watch`: each is one of the loop of which `pump` proves what is written. The contract of a system call gives a bound for the number
+-- that it answers, and says nothing of octets. That those read are the input's, and that those taken are written, is left to the two calls themselves.
 -- Assumes nothing.
 use Prim.Native.Nat.{ℕ, _≤_}
 use mathlib.Core.Path.{_≡_}
@@ -11,7 +10,7 @@ use lib.IntN.{ℤ, pos, negsuc}
 use Rattle.pump.specs.declared.Pump.{Pump}
 use Rattle.pump.specs.declared.Wanted.the-variants.{Write, Nothing}
 use Rattle.pump.specs.Pumping.{Pumped, wantsOf, gotOf, tookOf}
-use Rattle.pump.specs.Watching.{CallAnswer, Watched, beforeCalls, watched, withAnswer, AnswersCall, AllAnswered}
+use Rattle.pump.specs.Watching.{CallAnswer, beforeCalls, watched, withAnswer, AnswersCall, AllAnswered}
 use Rattle.watch.specs.declared.Called.{Called}
 
 -- ---- what a system call answers, and what is made of it
@@ -36,7 +35,8 @@ pub record Answer (x after : Pumped) : Type 0 where
   pub wanted : AnswersCall x answer
   pub leaves : after ≡ withAnswer x answer
 
--- the core and its buffers are as they were, but for what a read that failed may have left behind the octets that are there. No write is handed that
+-- the core and its buffers are as they were, but that a read that failed may have left anything behind the octets that are there, which the next read is
+-- lent again. Where a write is wanted, no read was made, and nothing differs
 pub record Alike (x after : Pumped) : Type 0 where
   pub core : after .pump ≡ x .pump
   pub text : after .out ≡ x .out

@@ -128,8 +128,8 @@ fn call(core: Pump, buf: &mut [u8], out: &[u8]) -> Called
     }
 }
 
-// Call by call, each with the core's turn behind it, until nothing more is wanted or a call fails. No
-// run uses up the number of calls.
+// Call by call, with the core's turn behind each that moved something, until nothing more is wanted
+// or a call fails. The number of calls is bounded by one that no run uses up.
 fn run(buf: &mut [u8], out: &mut [u8]) -> Pump
     ensures { λ r. ⌜ Reached (now (buf .entry)) (now (out .entry)) (record { pump = r; buf = now (buf .exit); out = now (out .exit) }) ⌝ }
 {
