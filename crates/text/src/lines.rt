@@ -88,7 +88,7 @@ fn put_end(out: &mut [u8], at: usize, room: usize, left: bool) -> Count
 // All lines of a capture and how it ends, from the buffer's front on; what lies past its end is
 // dropped. It stops where the text has more octets than the room. Many lines are fed at a time, so
 // that the table's row is not copied for every record.
-pub fn put_lines(capture: &[u8], out: &mut [u8], room: usize) -> Count
+pub(crate) fn put_lines(capture: &[u8], out: &mut [u8], room: usize) -> Count
     requires { ⌜ length (now out) ≤ room ⌝ }
     ensures { λ r. ⌜ record { count = r; out = now (out .exit) } ≡ putting (now (out .entry)) 0 room (textAfter start 0 (drop 8 (now (capture .entry)))) ⌝ }
 {
