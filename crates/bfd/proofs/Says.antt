@@ -11,7 +11,7 @@ use Rattle.gach.specs.Header.{ccChannel, channelRefusal}
 use Rattle.gach.proofs.Says.{ChannelSays, channel-says, channel-passes}
 use Rattle.bfd.specs.declared.Packet.{Packet}
 use Rattle.bfd.specs.Packet.{versionOctet, flagOctet, lengthOf}
-use Rattle.bfd.specs.Reception.{ruleRefusal, yourRefusal, controlRefusal, ccRefusal}
+use Rattle.bfd.specs.Reception.{ruleRefusal, yourRefusal, controlRefusal, ccRefusal, ccBodyRefusal}
 use Rattle.bfd.specs.Octets.{fieldRefusal, ccFieldRefusal}
 
 -- the first 28 octets of a message on a BFD channel
@@ -78,6 +78,11 @@ cc-says m e =
 pub cc-passes : (m : List ℕ) → CcSays m → ccRefusal m ≡ 0
 unfolding ccRefusal
 cc-passes m s = rw (control-passes ccChannel m (s .control), s .your, le-ltb (length m) (4 + lengthOf m) (s .fits))
+
+-- behind a CC's own header
+pub cc-behind : (m : List ℕ) → channelRefusal ccChannel m ≡ 0 → ccRefusal m ≡ ccBodyRefusal m
+unfolding controlRefusal ccRefusal ccBodyRefusal
+cc-behind m e = rw e
 
 -- fields that are not refused on either channel
 pub record FieldsSay (p : Packet) : Type 0 where

@@ -24,18 +24,26 @@ ruleRefusal version flags multiplier len my =
 unfoldable pub yourRefusal : ℕ → ℕ → ℕ
 yourRefusal state your = need (eqb your 0) 0 (need (ltb state 2) 6 0)
 
+-- behind the header, on either BFD channel: 3 (under 28), 6
+abbrev pub bodyRefusal : List ℕ → ℕ
+bodyRefusal m =
+    bar (ltb (length m) 28) 3
+    (ruleRefusal (versionOctet m) (flagOctet m) (getD m 6 0) (lengthOf m) (numberAt 4 m 8))
+
 -- what a message on either BFD channel is refused for on its first 28 octets
 unfoldable pub controlRefusal : ℕ → List ℕ → ℕ
-controlRefusal channel m =
-    orElse (channelRefusal channel m)
-    (bar (ltb (length m) 28) 3
-    (ruleRefusal (versionOctet m) (flagOctet m) (getD m 6 0) (lengthOf m) (numberAt 4 m 8)))
+controlRefusal channel m = orElse (channelRefusal channel m) (bodyRefusal m)
+
+-- behind that, for a CC alone: 6 by its Your Discriminator, 3 (Length past the end)
+abbrev pub endRefusal : List ℕ → ℕ
+endRefusal m = orElse (yourRefusal (flagOctet m / 64) (numberAt 4 m 12)) (bar (ltb (length m) (4 + lengthOf m)) 3 0)
 
 unfoldable pub ccRefusal : List ℕ → ℕ
-ccRefusal m =
-    orElse (controlRefusal ccChannel m)
-    (orElse (yourRefusal (flagOctet m / 64) (numberAt 4 m 12))
-    (bar (ltb (length m) (4 + lengthOf m)) 3 0))
+ccRefusal m = orElse (controlRefusal ccChannel m) (endRefusal m)
+
+-- what a message whose header is a CC's is refused for
+unfoldable pub ccBodyRefusal : List ℕ → ℕ
+ccBodyRefusal m = orElse (bodyRefusal m) (endRefusal m)
 
 -- what reading a CC says; octets behind Length are padding
 unfoldable pub readCc : List ℕ → Answer Packet

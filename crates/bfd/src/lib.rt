@@ -2,6 +2,8 @@
 mod read;
 mod write;
 
+pub use read::body_refusal;
+pub use read::cc_body_refusal;
 pub use read::cc_refusal;
 pub use read::control_refusal;
 pub use read::packet_of;

@@ -10,7 +10,7 @@ ghost use mathlib.Core.Path.{_≡_};
 ghost use Prim.Native.Nat.{_/_};
 ghost use Rattle.octets.specs.Choice.{answer};
 ghost use Rattle.bfd.specs.Packet.{packetOf, said};
-ghost use Rattle.bfd.specs.Reception.{ruleRefusal, yourRefusal, controlRefusal, ccRefusal, readCc};
+ghost use Rattle.bfd.specs.Reception.{ruleRefusal, yourRefusal, bodyRefusal, controlRefusal, ccBodyRefusal, ccRefusal, readCc};
 
 // The reception rules that hold on both channels.
 fn rule_refusal(version: u8, flags: u8, multiplier: u8, length: u8, my: u32) -> u32
@@ -50,29 +50,48 @@ pub fn your_refusal(state: u8, your: u32) -> u32
     6
 }
 
-// What a message on a BFD channel is refused for on its first 28 octets.
-pub fn control_refusal(m: &[u8], channel: u16) -> u32
-    ensures { λ r. ⌜ r ≡ controlRefusal channel (now (m .entry)) ⌝ }
+// The refusals behind the header on either BFD channel: the length first, so that no octet below it
+// is asked for twice.
+pub fn body_refusal(m: &[u8]) -> u32
+    ensures { λ r. ⌜ r ≡ bodyRefusal (now (m .entry)) ⌝ }
 {
-    let header = gach::channel_refusal(m, channel);
-    let rule = rule_refusal(
+    if m.len() < 28 {
+        return 3;
+    }
+    rule_refusal(
         get_u8(m, 4),
         get_u8(m, 5),
         get_u8(m, 6),
         get_u8(m, 7),
         get_u32(m, 8),
-    );
-    or_else(header, refuse_if(m.len() < 28, 3, rule))
+    )
+}
+
+// What a message on a BFD channel is refused for on its first 28 octets.
+pub fn control_refusal(m: &[u8], channel: u16) -> u32
+    ensures { λ r. ⌜ r ≡ controlRefusal channel (now (m .entry)) ⌝ }
+{
+    or_else(gach::channel_refusal(m, channel), body_refusal(m))
+}
+
+// What a message whose header is a CC's is refused for.
+pub fn cc_body_refusal(m: &[u8]) -> u32
+    ensures { λ r. ⌜ r ≡ ccBodyRefusal (now (m .entry)) ⌝ }
+{
+    let body = body_refusal(m);
+    if body != 0 {
+        return body;
+    }
+    let your = your_refusal(get_u8(m, 5) / 64, get_u32(m, 12));
+    let past = refuse_if(m.len() < 4 + get_u8(m, 7) as usize, 3, 0);
+    or_else(your, past)
 }
 
 // What a CC is refused for; 0 where it is accepted.
 pub fn cc_refusal(m: &[u8]) -> u32
     ensures { λ r. ⌜ r ≡ ccRefusal (now (m .entry)) ⌝ }
 {
-    let control = control_refusal(m, CC_CHANNEL);
-    let your = your_refusal(get_u8(m, 5) / 64, get_u32(m, 12));
-    let past = refuse_if(m.len() < 4 + get_u8(m, 7) as usize, 3, 0);
-    or_else(control, or_else(your, past))
+    or_else(gach::channel_refusal(m, CC_CHANNEL), cc_body_refusal(m))
 }
 
 // The fields, whether or not the message is refused; a field past the end reads as 0.

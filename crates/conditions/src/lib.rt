@@ -8,9 +8,8 @@ use rules::Key;
 pub use sound::conditions_sound;
 pub use standing::any_followed;
 pub use standing::count_at;
-pub use taking::fault_answer;
 pub use taking::no_conditions;
-pub use taking::taken_in;
+pub use taking::take_fault;
 
 // A place: the key of its condition (type 0 where there is none), the L flag as 0 or 1, the refresh
 // in seconds, and the reading of its last message.
@@ -28,4 +27,10 @@ pub struct Conditions {
     pub second: Condition,
     pub third: Condition,
     pub fourth: Condition,
+}
+
+// What a fault message leaves: the places where it is accepted, and its answer.
+pub struct Verdict {
+    pub places: Conditions,
+    pub answer: u32,
 }

@@ -1,6 +1,7 @@
 // What a fault message does to the four places.
 use crate::Condition;
 use crate::Conditions;
+use crate::Verdict;
 use crate::standing::does_stand;
 use fault::Fault;
 use octets::bit;
@@ -8,6 +9,8 @@ use rules::Key;
 ghost use mathlib.Core.Path.{_≡_};
 ghost use mathlib.Core.Bool.{cond, not, _&&_};
 ghost use lib.Dec.{eqb};
+ghost use Rattle.rules.specs.Conditions.{sameKey};
+ghost use Rattle.conditions.specs.Standing.{placeStands};
 ghost use Rattle.conditions.specs.Taking.{empty, noConditions, without, forgotten, freePlace, placed, conditionOf, faultAnswer, takenIn};
 
 fn empty_place() -> Condition
@@ -40,39 +43,21 @@ pub fn no_conditions() -> Conditions
     }
 }
 
-fn chosen(test: bool, a: Condition, b: Condition) -> Condition
-    ensures { λ r. ⌜ r ≡ cond test a b ⌝ }
-{
-    if test {
-        return a;
-    }
-    b
-}
-
-fn without_key(key: Key, c: Condition) -> Condition
-    ensures { λ r. ⌜ r ≡ without key c ⌝ }
+fn has_key(c: Condition, key: Key) -> bool
+    ensures { λ r. ⌜ r ≡ sameKey (c .key) key ⌝ }
 {
     let own = c.key;
-    chosen(rules::same_key(own, key), empty_place(), c)
+    rules::same_key(own, key)
 }
 
-fn forget(cs: Conditions, key: Key) -> Conditions
-    ensures { λ r. ⌜ r ≡ forgotten cs key ⌝ }
+// Whether a condition of another key stands in a place.
+fn stands_beside(key: Key, c: Condition, now: u64) -> bool
+    ensures { λ r. ⌜ r ≡ placeStands (without key c) now ⌝ }
 {
-    let a = cs.first;
-    let b = cs.second;
-    let c = cs.third;
-    let d = cs.fourth;
-    let first = without_key(key, a);
-    let second = without_key(key, b);
-    let third = without_key(key, c);
-    let fourth = without_key(key, d);
-    Conditions {
-        first: first,
-        second: second,
-        third: third,
-        fourth: fourth,
+    if has_key(c, key) {
+        return false;
     }
+    does_stand(c, now)
 }
 
 fn second_clear(b: bool, c: bool, d: bool) -> u8
@@ -100,31 +85,45 @@ fn first_clear(a: bool, b: bool, c: bool, d: bool) -> u8
     0
 }
 
-fn free_place(cs: Conditions, now: u64) -> u8
-    ensures { λ r. ⌜ r ≡ freePlace cs now ⌝ }
+// The first place in which no condition of another key stands, 4 where four do.
+fn free_beside(cs: Conditions, key: Key, now: u64) -> u8
+    ensures { λ r. ⌜ r ≡ freePlace (forgotten cs key) now ⌝ }
 {
     let first = cs.first;
     let second = cs.second;
     let third = cs.third;
     let fourth = cs.fourth;
-    let a = does_stand(first, now);
-    let b = does_stand(second, now);
-    let c = does_stand(third, now);
-    let d = does_stand(fourth, now);
+    let a = stands_beside(key, first, now);
+    let b = stands_beside(key, second, now);
+    let c = stands_beside(key, third, now);
+    let d = stands_beside(key, fourth, now);
     first_clear(a, b, c, d)
 }
 
-fn place(cs: Conditions, at: u8, c: Condition) -> Conditions
-    ensures { λ r. ⌜ r ≡ placed cs at c ⌝ }
+// One place behind the message: its condition, or nothing where its key was, or as it was.
+fn place_after(here: bool, key: Key, c: Condition, own: Condition) -> Condition
+    ensures { λ r. ⌜ r ≡ cond here c (without key own) ⌝ }
+{
+    if here {
+        return c;
+    }
+    if has_key(own, key) {
+        return empty_place();
+    }
+    own
+}
+
+fn places_after(cs: Conditions, key: Key, at: u8, c: Condition) -> Conditions
+    ensures { λ r. ⌜ r ≡ placed (forgotten cs key) at c ⌝ }
 {
     let first = cs.first;
     let second = cs.second;
     let third = cs.third;
     let fourth = cs.fourth;
-    let a = chosen(at == 0, c, first);
-    let b = chosen(at == 1, c, second);
-    let d = chosen(at == 2, c, third);
-    let e = chosen(at == 3, c, fourth);
+    let a = place_after(at == 0, key, c, first);
+    let b = place_after(at == 1, key, c, second);
+    let d = place_after(at == 2, key, c, third);
+    let e = place_after(at == 3, key, c, fourth);
     Conditions {
         first: a,
         second: b,
@@ -167,20 +166,17 @@ fn place_by(removed: bool, free: u8) -> u8
     free
 }
 
-// 9 for a new condition where four others stand, else 0.
-pub fn fault_answer(cs: Conditions, f: Fault, now: u64) -> u32
-    ensures { λ r. ⌜ r ≡ faultAnswer cs f now ⌝ }
+// The places after an accepted fault message, and its answer.
+pub fn take_fault(cs: Conditions, f: Fault, now: u64) -> Verdict
+    ensures { λ r. ⌜ r ≡ record { places = takenIn cs f now; answer = faultAnswer cs f now } ⌝ }
 {
-    let others = forget(cs, rules::key_of(f));
-    answer_by(f.removed, free_place(others, now))
-}
-
-// The places after an accepted fault message.
-pub fn taken_in(cs: Conditions, f: Fault, now: u64) -> Conditions
-    ensures { λ r. ⌜ r ≡ takenIn cs f now ⌝ }
-{
-    let others = forget(cs, rules::key_of(f));
-    let free = free_place(others, now);
+    let key = rules::key_of(f);
+    let free = free_beside(cs, key, now);
     let c = condition_of(f, now);
-    place(others, place_by(f.removed, free), c)
+    let places = places_after(cs, key, place_by(f.removed, free), c);
+    let answer = answer_by(f.removed, free);
+    Verdict {
+        places: places,
+        answer: answer,
+    }
 }

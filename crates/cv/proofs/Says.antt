@@ -11,10 +11,11 @@ use borrow.Author.Tests.{ltb-true, ltb-false, eqb-true, lt-ltb, le-ltb, eq-eqb, 
 use Rattle.octets.specs.Numbers.{numberAt}
 use Rattle.octets.proofs.Numbers.{at-part}
 use Rattle.octets.proofs.Chain.{need-passed, bar-passed, orElse-passed}
-use Rattle.gach.specs.Header.{cvChannel}
+use Rattle.gach.specs.Header.{cvChannel, channelRefusal}
+use Rattle.bfd.specs.Reception.{controlRefusal}
 use Rattle.bfd.proofs.Says.{ControlSays, control-says, control-passes}
 use Rattle.cv.specs.MepId.{mepIdAt, mepRefusal}
-use Rattle.cv.specs.Cv.{mepAt, cvRefusal, mepPart, partAt}
+use Rattle.cv.specs.Cv.{mepAt, cvRefusal, cvBodyRefusal, mepPart, partAt}
 
 pub record CvSays (m : List ℕ) : Type 0 where
   pub control : ControlSays cvChannel m
@@ -35,6 +36,11 @@ pub cv-passes : (m : List ℕ) → CvSays m → cvRefusal m ≡ 0
 unfolding cvRefusal mepRefusal
 cv-passes m s =
     rw (control-passes cvChannel m (s .control), le-ltb (length m) (mepAt m + 16) (s .room), lt-ltb (numberAt 2 m (mepAt m)) 2 (s .kind), eq-eqb _ _ (s .size))
+
+-- behind a CV's own header
+pub cv-behind : (m : List ℕ) → channelRefusal cvChannel m ≡ 0 → cvRefusal m ≡ cvBodyRefusal m
+unfolding controlRefusal cvRefusal cvBodyRefusal
+cv-behind m e = rw e
 
 -- the part is the 16 octets of an accepted message, and empty of a refused one
 pub part-accepted : (m : List ℕ) → cvRefusal m ≡ 0 → mepPart m ≡ take 16 (drop (mepAt m) m)

@@ -11,7 +11,7 @@ use Rattle.octets.specs.Choice.{need, bar, orElse, Answer, accepted, refused, a
 use Rattle.gach.specs.Header.{cvChannel}
 use Rattle.bfd.specs.declared.Packet.{Packet}
 use Rattle.bfd.specs.Packet.{lengthOf, packetOf}
-use Rattle.bfd.specs.Reception.{controlRefusal}
+use Rattle.bfd.specs.Reception.{bodyRefusal, controlRefusal}
 use Rattle.bfd.specs.Octets.{packetOctets, fieldRefusal}
 use Rattle.cv.specs.declared.MepId.{MepId}
 use Rattle.cv.specs.declared.Verification.{Verification}
@@ -23,12 +23,19 @@ use Rattle.cv.specs.MepId.{mepIdAt, mepOctets, mepRefusal}
 abbrev pub mepAt : List ℕ → ℕ
 mepAt m = 4 + lengthOf m
 
--- the order for a CV: the packet's refusals on its first 28 octets, then 3 until the whole MEP-ID is there, then 7
+-- behind the packet: 3 until the whole MEP-ID is there, then 7
+abbrev pub sourceRefusal : List ℕ → ℕ
+sourceRefusal m =
+    bar (ltb (length m) (mepAt m + 16)) 3
+    (mepRefusal (numberAt 2 m (mepAt m)) (numberAt 2 m (mepAt m + 2)))
+
+-- the order for a CV: the packet's refusals on its first 28 octets, then those of its MEP-ID
 unfoldable pub cvRefusal : List ℕ → ℕ
-cvRefusal m =
-    orElse (controlRefusal cvChannel m)
-    (bar (ltb (length m) (mepAt m + 16)) 3
-    (mepRefusal (numberAt 2 m (mepAt m)) (numberAt 2 m (mepAt m + 2))))
+cvRefusal m = orElse (controlRefusal cvChannel m) (sourceRefusal m)
+
+-- what a message whose header is a CV's is refused for
+unfoldable pub cvBodyRefusal : List ℕ → ℕ
+cvBodyRefusal m = orElse (bodyRefusal m) (sourceRefusal m)
 
 abbrev pub verificationOf : List ℕ → Verification
 verificationOf m = record { packet = packetOf m; mep = mepIdAt m (mepAt m) }

@@ -1,5 +1,6 @@
 // Reading: the refusals in the paper's order, the fields, and the caller's own stretch.
 use crate::CvAnswer;
+use crate::MepId;
 use crate::Verification;
 use crate::mep_id::mep_id_at;
 use crate::mep_id::mep_refusal;
@@ -10,7 +11,8 @@ ghost use mathlib.Core.Path.{_≡_};
 ghost use Prim.Native.Nat.{_+_};
 ghost use lib.ListN.{getD};
 ghost use Rattle.octets.specs.Choice.{answer};
-ghost use Rattle.cv.specs.Cv.{mepAt, cvRefusal, verificationOf, said, readCv, mepPart, partAt};
+ghost use Rattle.cv.specs.MepId.{mepIdAt};
+ghost use Rattle.cv.specs.Cv.{mepAt, cvBodyRefusal, cvRefusal, verificationOf, said, readCv, mepPart, partAt};
 
 // Where the MEP-ID starts: right after Length octets.
 fn mep_at(m: &[u8]) -> u16
@@ -19,21 +21,40 @@ fn mep_at(m: &[u8]) -> u16
     4 + get_u8(m, 7) as u16
 }
 
+// What a message whose header is a CV's is refused for.
+pub fn cv_body_refusal(m: &[u8]) -> u32
+    ensures { λ r. ⌜ r ≡ cvBodyRefusal (now (m .entry)) ⌝ }
+{
+    let body = bfd::body_refusal(m);
+    if body != 0 {
+        return body;
+    }
+    let at = mep_at(m) as usize;
+    if m.len() < at + 16 {
+        return 3;
+    }
+    mep_refusal(get_u16(m, at), get_u16(m, at + 2))
+}
+
 // What a CV is refused for; 0 where it is accepted.
 pub fn cv_refusal(m: &[u8]) -> u32
     ensures { λ r. ⌜ r ≡ cvRefusal (now (m .entry)) ⌝ }
 {
-    let control = bfd::control_refusal(m, CV_CHANNEL);
-    let at = mep_at(m) as usize;
-    let mep = mep_refusal(get_u16(m, at), get_u16(m, at + 2));
-    octets::or_else(control, octets::refuse_if(m.len() < at + 16, 3, mep))
+    octets::or_else(gach::channel_refusal(m, CV_CHANNEL), cv_body_refusal(m))
+}
+
+// The MEP-ID of a message, whether or not it is refused.
+pub fn source_of(m: &[u8]) -> MepId
+    ensures { λ r. ⌜ r ≡ mepIdAt (now (m .entry)) (mepAt (now (m .entry))) ⌝ }
+{
+    mep_id_at(m, mep_at(m))
 }
 
 fn verification(m: &[u8]) -> Verification
     ensures { λ r. ⌜ r ≡ verificationOf (now (m .entry)) ⌝ }
 {
     let p = bfd::packet_of(m);
-    let id = mep_id_at(m, mep_at(m));
+    let id = source_of(m);
     Verification { packet: p, mep: id }
 }
 

@@ -1,15 +1,18 @@
 -- What a fault message that is not refused says, and a message that says so.
 -- Assumes nothing.
-use mathlib.Core.Path.{_≡_}
+use mathlib.Core.Path.{_≡_, refl}
+use mathlib.Core.Bool.{Bool, true, false}
 use mathlib.Core.List.{List}
-use Prim.Native.Nat.{ℕ, suc, _/_, _≤_}
+use Prim.Native.Nat.{ℕ, zero, suc, _/_, _≤_}
 use lib.ListN.{length, getD}
-use borrow.Author.Tests.{ltb-false, leb-true, eqb-true, le-ltb, le-leb, eq-eqb}
+use lib.Dec.{ltb, eqb·suc-zero}
+use borrow.Author.Tests.{ne-eqb, ltb-false, leb-true, eqb-true, le-ltb, le-leb, eq-eqb}
+use Rattle.octets.specs.Choice.{bar, orElse, accepted, refused}
 use Rattle.octets.proofs.Chain.{need-passed, bar-passed, orElse-passed}
 use Rattle.gach.specs.Header.{faultChannel, channelRefusal}
 use Rattle.gach.proofs.Says.{ChannelSays, channel-says, channel-passes}
 use Rattle.fault.specs.declared.tlv.Tlvs.{Tlvs}
-use Rattle.fault.specs.Message.{rangeRefusal, headRefusal, tlvsEnd, tlvsIn, refusalWith, faultRefusal}
+use Rattle.fault.specs.Message.{rangeRefusal, headRefusal, tlvsEnd, tlvsIn, frontThen, frontRefusal, refusalWith, faultRefusal, fieldsWith, faultOf, readFault}
 
 -- a type and a refresh time that are not refused
 pub record RangeSays (kind refresh : ℕ) : Type 0 where
@@ -76,3 +79,30 @@ passes m t s e =
 pub fault-says : (m : List ℕ) → faultRefusal m ≡ 0 → Says m
 unfolding faultRefusal
 fault-says m e = says m (tlvsIn m) e
+
+-- the TLVs come last
+chained : (a : ℕ) (b : Bool) (h : ℕ) (d : Bool) (rest : ℕ)
+    → orElse a (bar b 3 (orElse h (bar d 3 rest))) ≡ orElse (orElse a (bar b 3 (orElse h (bar d 3 0)))) rest
+chained (suc a) b h d rest = rw (eqb·suc-zero a, eqb·suc-zero a)
+chained zero true h d rest = refl
+chained zero false (suc h) d rest = rw (eqb·suc-zero h, eqb·suc-zero h)
+chained zero false zero true rest = refl
+chained zero false zero false rest = refl
+
+pub front-first : (m : List ℕ) (rest : ℕ) → frontThen m rest ≡ orElse (frontRefusal m) rest
+unfolding frontRefusal
+front-first m rest = chained (channelRefusal faultChannel m) (ltb (length m) 9) (headRefusal m) (ltb (length m) (tlvsEnd m)) rest
+
+-- what reading says, refused before the TLVs, by a TLV, and read
+module _ (m : List ℕ) where
+  pub refused-in-front : (n : ℕ) → n ≡ frontRefusal m → (n ≡ 0 → ⊥) → refused n ≡ readFault m
+  unfolding readFault faultRefusal refusalWith
+  refused-in-front n e h = rw (front-first m, ← e, ne-eqb n 0 h, ne-eqb n 0 h)
+
+  pub refused-by-tlv : (n : ℕ) → frontRefusal m ≡ 0 → n ≡ tlvsIn m .refusal → (n ≡ 0 → ⊥) → refused n ≡ readFault m
+  unfolding readFault faultRefusal refusalWith
+  refused-by-tlv n z e h = rw (front-first m, z, ← e, ne-eqb n 0 h)
+
+  pub read-whole : frontRefusal m ≡ 0 → tlvsIn m .refusal ≡ 0 → accepted (fieldsWith m (tlvsIn m)) ≡ readFault m
+  unfolding readFault faultRefusal refusalWith faultOf
+  read-whole z e = rw (front-first m, z, e)

@@ -41,13 +41,21 @@ tlvsEnd m = 9 + getD m 8 0
 abbrev pub tlvsIn : List ℕ → Tlvs
 tlvsIn m = tlvsOf m (tlvsEnd m)
 
--- the header's refusals 3, 4 and 5; 3 under 9 octets; 8 for octets 4 to 7; 3 for TLVs past the end of the message; 8 for a TLV
-unfoldable pub refusalWith : List ℕ → Tlvs → ℕ
-refusalWith m t =
+-- the header's refusals 3, 4 and 5; 3 under 9 octets; 8 for octets 4 to 7; 3 for TLVs past the end of the message; then the rest
+abbrev pub frontThen : List ℕ → ℕ → ℕ
+frontThen m rest =
     orElse (channelRefusal faultChannel m)
     (bar (ltb (length m) 9) 3
     (orElse (headRefusal m)
-    (bar (ltb (length m) (tlvsEnd m)) 3 (t .refusal))))
+    (bar (ltb (length m) (tlvsEnd m)) 3 rest)))
+
+-- before the TLVs
+unfoldable pub frontRefusal : List ℕ → ℕ
+frontRefusal m = frontThen m 0
+
+-- and with 8 for a TLV
+unfoldable pub refusalWith : List ℕ → Tlvs → ℕ
+refusalWith m t = frontThen m (t .refusal)
 
 unfoldable pub faultRefusal : List ℕ → ℕ
 faultRefusal m = refusalWith m (tlvsIn m)

@@ -10,10 +10,8 @@ use gach::channel_refusal;
 use octets::get_u8;
 use octets::need;
 use octets::or_else;
-use octets::refuse_if;
 ghost use mathlib.Core.Path.{_≡_};
-ghost use Rattle.octets.specs.Choice.{answer};
-ghost use Rattle.fault.specs.Message.{said, ifIdOf, globalIdOf, rangeRefusal, headRefusal, refusalWith, fieldsWith, faultRefusal, faultOf, readFault};
+ghost use Rattle.fault.specs.Message.{said, ifIdOf, globalIdOf, rangeRefusal, headRefusal, frontRefusal, refusalWith, fieldsWith, faultRefusal, faultOf, readFault};
 
 // The refusal n for a type other than 1 and 2 or a refresh time other than 1 to 20 seconds.
 pub(crate) fn range_refusal(n: u32, kind: u8, refresh: u8) -> u32
@@ -31,16 +29,32 @@ fn head_refusal(m: &[u8]) -> u32
     need(get_u8(m, 4) / 16 == 1, 8, range)
 }
 
+// What a fault message is refused for before its TLVs are walked.
+fn front_refusal(m: &[u8]) -> u32
+    ensures { λ r. ⌜ r ≡ frontRefusal (now (m .entry)) ⌝ }
+{
+    let header = channel_refusal(m, FAULT_CHANNEL);
+    if header != 0 {
+        return header;
+    }
+    if m.len() < 9 {
+        return 3;
+    }
+    let head = head_refusal(m);
+    if head != 0 {
+        return head;
+    }
+    let end = 9 + get_u8(m, 8) as usize;
+    if m.len() < end {
+        return 3;
+    }
+    0
+}
+
 fn refusal_with(m: &[u8], t: Tlvs) -> u32
     ensures { λ r. ⌜ r ≡ refusalWith (now (m .entry)) t ⌝ }
 {
-    let end = 9 + get_u8(m, 8) as usize;
-    let tlvs = refuse_if(m.len() < end, 3, t.refusal);
-    let head = or_else(head_refusal(m), tlvs);
-    or_else(
-        channel_refusal(m, FAULT_CHANNEL),
-        refuse_if(m.len() < 9, 3, head),
-    )
+    or_else(front_refusal(m), t.refusal)
 }
 
 fn if_id(present: bool, node: u32, interface: u32) -> IfId
@@ -77,16 +91,6 @@ fn fields_with(m: &[u8], t: Tlvs) -> Fault
     }
 }
 
-fn answer_of(n: u32, f: Fault) -> FaultAnswer
-    ensures { λ r. ⌜ said r ≡ answer n f ⌝ }
-{
-    if n == 0 {
-        FaultAnswer::Read(f)
-    } else {
-        FaultAnswer::Refused(n)
-    }
-}
-
 // The first refusal of a fault message, 0 where there is none.
 pub fn fault_refusal(m: &[u8]) -> u32
     ensures { λ r. ⌜ r ≡ faultRefusal (now (m .entry)) ⌝ }
@@ -105,6 +109,15 @@ pub fn fault_fields(m: &[u8]) -> Fault
 pub fn read_fault(m: &[u8]) -> FaultAnswer
     ensures { λ r. ⌜ said r ≡ readFault (now (m .entry)) ⌝ }
 {
+    let n = front_refusal(m);
+    if n != 0 {
+        return FaultAnswer::Refused(n);
+    }
     let t = read_tlvs(m, get_u8(m, 8));
-    answer_of(refusal_with(m, t), fields_with(m, t))
+    let tlv = t.refusal;
+    if tlv != 0 {
+        return FaultAnswer::Refused(tlv);
+    }
+    let f = fields_with(m, t);
+    FaultAnswer::Read(f)
 }

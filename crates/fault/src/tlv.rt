@@ -1,11 +1,9 @@
 // The walk over the TLVs of a fault message.
 use octets::get_u8;
 use octets::get_u32;
-use octets::need;
-use octets::refuse_if;
 ghost use mathlib.Core.Path.{_≡_};
 ghost use Prim.Native.Nat.{_+_, _<_};
-ghost use Rattle.fault.specs.Tlvs.{repeated, rightLength, tlvRefusal, withTlv, after, step, tlvsOf};
+ghost use Rattle.fault.specs.Tlvs.{repeated, rightLength, tlvRefusal, passed, withIf, withGlobal, ended, step, tlvsOf};
 
 // What the TLVs before the place `at` said. refusal is 0 or 8; ifid and globalid tell whether an
 // IF_ID and a Global_ID were among them, and node, interface and global are 0 until then. The total
@@ -50,45 +48,60 @@ fn tlv_refusal(t: Tlvs, end: u16, kind: u8, size: u8) -> u32
     ensures { λ r. ⌜ r ≡ tlvRefusal t end kind size ⌝ }
 {
     let value = t.at + 2;
-    let length = need(has_right_length(kind, size), 8, 0);
-    let fits = refuse_if(end < value + size as u16, 8, length);
-    refuse_if(end < value, 8, refuse_if(is_repeated(t, kind), 8, fits))
+    if end < value {
+        return 8;
+    }
+    if is_repeated(t, kind) {
+        return 8;
+    }
+    if end < value + size as u16 {
+        return 8;
+    }
+    if has_right_length(kind, size) {
+        return 0;
+    }
+    8
 }
 
-// The TLV of this type and length at t.at taken in; a and b are the 32-bit numbers of its value.
-fn with_tlv(t: Tlvs, kind: u8, size: u8, a: u32, b: u32) -> Tlvs
+fn pass_tlv(t: Tlvs, size: u8) -> Tlvs
     requires { ⌜ t .at < 265 ⌝ }
-    ensures { λ r. ⌜ r ≡ withTlv t kind size a b ⌝ }
+    ensures { λ r. ⌜ r ≡ passed t size ⌝ }
 {
     let mut r = t;
     r.at = t.at + 2 + size as u16;
-    if kind == 1 {
-        r.ifid = true;
-        r.node = a;
-        r.interface = b;
-        return r;
-    }
-    if kind == 2 {
-        r.globalid = true;
-        r.global = a;
-        return r;
-    }
     r
 }
 
-// The walk goes on behind the TLV, or ends with the refusal n.
-fn go_on(n: u32, end: u16, t: Tlvs, next: Tlvs) -> Tlvs
-    ensures { λ r. ⌜ r ≡ after n end t next ⌝ }
+fn end_with(n: u32, end: u16, t: Tlvs) -> Tlvs
+    ensures { λ r. ⌜ r ≡ ended n end t ⌝ }
 {
-    if n == 0 {
-        return next;
-    }
     let mut r = t;
     r.at = end;
     r.refusal = n;
     r
 }
 
+fn with_if(t: Tlvs, node: u32, interface: u32) -> Tlvs
+    ensures { λ r. ⌜ r ≡ withIf t node interface ⌝ }
+{
+    let mut r = t;
+    r.ifid = true;
+    r.node = node;
+    r.interface = interface;
+    r
+}
+
+fn with_global(t: Tlvs, global: u32) -> Tlvs
+    ensures { λ r. ⌜ r ≡ withGlobal t global ⌝ }
+{
+    let mut r = t;
+    r.globalid = true;
+    r.global = global;
+    r
+}
+
+// The walk goes on behind the TLV at t.at, or ends with its refusal. The value of a TLV that is
+// passed over is not read.
 fn step_tlv(m: &[u8], end: u16, t: Tlvs) -> Tlvs
     requires { ⌜ t .at < 265 ⌝ }
     ensures { λ r. ⌜ r ≡ step (now (m .entry)) end t ⌝ }
@@ -96,8 +109,18 @@ fn step_tlv(m: &[u8], end: u16, t: Tlvs) -> Tlvs
     let at = t.at as usize;
     let kind = get_u8(m, at);
     let size = get_u8(m, at + 1);
-    let next = with_tlv(t, kind, size, get_u32(m, at + 2), get_u32(m, at + 6));
-    go_on(tlv_refusal(t, end, kind, size), end, t, next)
+    let n = tlv_refusal(t, end, kind, size);
+    if n != 0 {
+        return end_with(n, end, t);
+    }
+    let next = pass_tlv(t, size);
+    if kind == 1 {
+        return with_if(next, get_u32(m, at + 2), get_u32(m, at + 6));
+    }
+    if kind == 2 {
+        return with_global(next, get_u32(m, at + 2));
+    }
+    next
 }
 
 // The TLVs in `total` octets from octet 9 on.

@@ -4,7 +4,7 @@ use mathlib.Core.Bool.{cond}
 use Prim.Native.Nat.{ℕ}
 use mathlib.Core.List.{List}
 use lib.Dec.{eqb}
-use Rattle.octets.specs.Choice.{orElse, Answer, accepted, refused, answer}
+use Rattle.octets.specs.Choice.{orElse}
 use Rattle.gach.specs.Header.{ccChannel, cvChannel, channelOf, headerRefusal}
 use Rattle.gach.specs.Kinds.{kindRefusal}
 use Rattle.bfd.specs.Packet.{packetOf}
@@ -14,8 +14,6 @@ use Rattle.cv.specs.Cv.{cvRefusal, mepPart}
 use Rattle.fault.specs.Message.{faultRefusal, faultOf}
 use Rattle.message.specs.declared.Message.{Message}
 use Rattle.message.specs.declared.Message.the-variants.{ContinuityCheck, ConnectivityVerification, FaultManagement}
-use Rattle.message.specs.declared.MessageAnswer.{MessageAnswer}
-use Rattle.message.specs.declared.MessageAnswer.the-variants.{Read, Refused}
 
 -- by the channel type: for a CC, for a CV, else
 abbrev pub byChannel : {A : Type 0} → ℕ → A → A → A → A
@@ -34,11 +32,3 @@ messageOf m =
     (ContinuityCheck (packetOf m))
     (ConnectivityVerification (packetOf m) (mepIdAt (mepPart m) 0))
     (FaultManagement (faultOf m))
-
--- the paper's number and values for each case of the reader's answer
-abbrev pub said : MessageAnswer → Answer Message
-said (Read message) = accepted message
-said (Refused n) = refused n
-
-unfoldable pub readMessage : List ℕ → Answer Message
-readMessage m = answer (messageRefusal m) (messageOf m)

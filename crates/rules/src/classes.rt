@@ -1,15 +1,13 @@
-// What a message is to the session of its label.
-use crate::Received;
+// Whether a CC or CV is crossed to the session of its label.
 use crate::Settings;
-use bfd::Packet;
-use message::Message;
+use cv::MepId;
 ghost use mathlib.Core.Path.{_≡_};
-ghost use mathlib.Core.Bool.{_||_, not, cond};
-ghost use Rattle.rules.specs.Received.{foreign, receivedAs};
-ghost use Rattle.rules.specs.declared.Received.the-variants.{CrossedMessage, HeardCc, HeardCv};
+ghost use mathlib.Core.Bool.{_||_, not};
+ghost use Rattle.cv.specs.MepId.{sameMepId};
+ghost use Rattle.rules.specs.Received.{foreign};
 
 // A Your Discriminator that is neither 0 nor the session's own.
-fn is_foreign(own: u32, your: u32) -> bool
+pub fn is_foreign(own: u32, your: u32) -> bool
     ensures { λ r. ⌜ r ≡ foreign own your ⌝ }
 {
     if your == 0 {
@@ -18,39 +16,13 @@ fn is_foreign(own: u32, your: u32) -> bool
     your != own
 }
 
-fn cc_as(crossed: bool, p: Packet) -> Received
-    ensures { λ r. ⌜ r ≡ cond crossed CrossedMessage (HeardCc p) ⌝ }
+// Whether a CV is crossed: by its Your Discriminator, or by its MEP-ID.
+pub fn cv_crosses(s: Settings, your: u32, id: MepId) -> bool
+    ensures { λ r. ⌜ r ≡ (foreign (s .discriminator) your || not (sameMepId id (s .expected))) ⌝ }
 {
-    if crossed {
-        return Received::CrossedMessage;
+    if is_foreign(s.discriminator, your) {
+        return true;
     }
-    Received::HeardCc(p)
-}
-
-fn cv_as(foreign: bool, expected: bool) -> Received
-    ensures { λ r. ⌜ r ≡ cond (foreign || not expected) CrossedMessage HeardCv ⌝ }
-{
-    if foreign {
-        return Received::CrossedMessage;
-    }
-    if expected {
-        return Received::HeardCv;
-    }
-    Received::CrossedMessage
-}
-
-// Crossed, heard, or a fault message.
-pub fn received_as(s: Settings, m: Message) -> Received
-    ensures { λ r. ⌜ r ≡ receivedAs s m ⌝ }
-{
-    let own = s.discriminator;
-    match m {
-        Message::ContinuityCheck(p) => cc_as(is_foreign(own, p.your), p),
-        Message::ConnectivityVerification(p, id) => {
-            let expected = s.expected;
-            let same = cv::same_mep_id(id, expected);
-            cv_as(is_foreign(own, p.your), same)
-        }
-        Message::FaultManagement(f) => Received::FaultMessage(f),
-    }
+    let expected = s.expected;
+    !cv::same_mep_id(id, expected)
 }

@@ -8,7 +8,8 @@ mod ranges;
 mod times;
 
 use bfd::Packet;
-pub use classes::received_as;
+pub use classes::cv_crosses;
+pub use classes::is_foreign;
 use cv::MepId;
 pub use diagnostics::diagnostic_of;
 pub use diagnostics::loss_alarm;

@@ -5,5 +5,5 @@ use Rattle.cv.proofs.read.verification.Tie as tie
 pub verification-spec : {M : Type 1} → statement M
 verification-spec =
     tie.close
-    (tie.spec (λ c κs. search needs) (λ c κs. search needs) (λ c κs. search needs)
-    (λ c. rw (c .mep-id-at .ensures, c .before .mep-at .ensures, c .before .before .packet-of .ensures)))
+    (tie.spec (λ c κs. search needs) (λ c κs. search needs)
+    (λ c. rw (c .source-of .ensures, c .before .packet-of .ensures)))

@@ -1,11 +1,31 @@
+use borrow.Author.Tests.{lt-ltb, le-ltb}
 use Rattle.fault.specs.Tlvs.{tlvRefusal}
 use borrow.Author.Needs.{needs}
 use Rattle.fault.proofs.tlv.tlv_refusal.Statement.{statement}
 use Rattle.fault.proofs.tlv.tlv_refusal.Tie as tie
 
-pub tlv-refusal-spec : {M : Type 1} → statement M
+returns : tie.Need-returns
 unfolding tlvRefusal
+returns c = rw (lt-ltb _ _ (c .if1 .taken))
+
+returns-2 : tie.Need-returns-2
+unfolding tlvRefusal
+returns-2 c = rw (le-ltb _ _ (c .before .before .if1 .left), ← c .before .is-repeated .ensures, c .if2 .taken)
+
+returns-3 : tie.Need-returns-3
+unfolding tlvRefusal
+returns-3 c = rw (le-ltb _ _ (c .before .before .before .if1 .left), ← c .before .before .is-repeated .ensures, c .before .if2 .left, lt-ltb _ _ (c .if3 .taken))
+
+returns-4 : tie.Need-returns-4
+unfolding tlvRefusal
+returns-4 c = rw (le-ltb _ _ (c .before .before .before .before .before .if1 .left), ← c .before .before .before .before .is-repeated .ensures, c .before .before .before .if2 .left, le-ltb _ _ (c .before .before .if3 .left), ← c .before .has-right-length .ensures, c .if4 .taken)
+
+returns-5 : tie.Need-returns-5
+unfolding tlvRefusal
+returns-5 c = rw (le-ltb _ _ (c .before .before .before .before .before .if1 .left), ← c .before .before .before .before .is-repeated .ensures, c .before .before .before .if2 .left, le-ltb _ _ (c .before .before .if3 .left), ← c .before .has-right-length .ensures, c .if4 .left)
+
+pub tlv-refusal-spec : {M : Type 1} → statement M
 tlv-refusal-spec =
     tie.close
-    (tie.spec (λ c. search needs) (λ c κs. search needs) (λ c κs. search needs) (λ c. search needs) (λ c κs. search needs)
-    (λ c κs. search needs) (λ c κs. search needs) (λ c κs. search needs) (λ c. cc))
+    (tie.spec (λ c. search needs) returns (λ c κs. search needs) returns-2 (λ c. search needs) returns-3
+    (λ c κs. search needs) returns-4 returns-5)
