@@ -32,6 +32,23 @@ ownFits s clock =
 unfoldable pub sessionSound : Session → ℕ → Bool
 sessionSound s clock = settingsFit (s .settings) && ownFits s clock && conditionsSound (s .conditions) clock
 
+-- the same in the order of the code: what every record is asked, and what a crossing is asked besides
+abbrev pub plainFit : ℕ → ℕ → ℕ → ℕ → Bool
+plainFit state multiplier diagnostic owed = leb state 4 && leb 1 multiplier && leb diagnostic 31 && leb owed 1
+
+abbrev pub crossingFits : ℕ → ℕ → ℕ → Bool
+crossingFits crossing crossed clock = leb crossing 1 && (eqb crossing 0 || leb crossed clock)
+
+-- no crossing and no condition
+abbrev pub calm : ℕ → ℕ → ℕ → ℕ → ℕ → Bool
+calm crossing first second third fourth = eqb crossing 0 && (eqb first 0 && eqb second 0 && eqb third 0 && eqb fourth 0)
+
+unfoldable pub ownPlain : Session → ℕ → Bool
+ownPlain s clock =
+    plainFit (s .state) (s .peer .multiplier) (s .peer .diagnostic) (s .peer .owed)
+    && leb (s .timed) clock
+    && remoteFits (s .state) (s .peer .remote)
+
 -- the numbers that go out in messages are those that the code's types hold
 pub record Held (s : Session) : Type 0 where
   pub discriminator : s .settings .discriminator < 256 ^ 4

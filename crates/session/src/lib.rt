@@ -1,10 +1,18 @@
 // One session's record, by value: what it shows at a clock, what each accepted call does to it, and
 // when it is sound. Every step takes the session's own settling (TIMER) with it.
+mod acts;
 mod queries;
-mod reception;
 mod soundness;
 mod steps;
 
+pub use acts::Acted;
+pub use acts::Faulted;
+pub use acts::Live;
+pub use acts::bfd_act;
+pub use acts::fault_act;
+pub use acts::is_fault;
+pub use acts::with_fault;
+pub use acts::with_live;
 use conditions::Conditions;
 pub use queries::cc_octets_at;
 pub use queries::crossing_at;
@@ -15,19 +23,12 @@ pub use queries::loss_at;
 pub use queries::packet_at;
 pub use queries::report_at;
 pub use queries::state_at;
-pub use reception::received_answer;
-pub use reception::received_by;
 pub use rules::Report;
 use rules::Settings;
 pub use soundness::session_sound;
 pub use steps::cc_written;
-pub use steps::crossed_at;
-pub use steps::fault_taken;
-pub use steps::heard_cc;
-pub use steps::heard_cv;
 pub use steps::locked_by;
 pub use steps::opened_at;
-pub use steps::settled_at;
 pub use steps::unlocked_at;
 
 // What the last heard CC gave: remote discriminator (0 is none), multiplier, diagnostic, and 1 where

@@ -1,10 +1,12 @@
-// Refusal 26 for one record: early returns over numbers, the conditions last.
+// Refusal 26 for one record: early returns over numbers. Most records have no crossing and no
+// condition: those are asked for together, behind what every record is asked, and nothing else is
+// asked of a record that has neither.
 use crate::Session;
 ghost use mathlib.Core.Path.{_≡_};
-ghost use Rattle.session.specs.Soundness.{numbersFit, datesFit, remoteFits, ownFits, sessionSound};
+ghost use Rattle.session.specs.Soundness.{plainFit, crossingFits, calm, remoteFits, ownPlain, sessionSound};
 
-fn numbers_fit(state: u8, multiplier: u8, diagnostic: u8, owed: u8, crossing: u8) -> bool
-    ensures { λ r. ⌜ r ≡ numbersFit state multiplier diagnostic owed crossing ⌝ }
+fn plain_fit(state: u8, multiplier: u8, diagnostic: u8, owed: u8) -> bool
+    ensures { λ r. ⌜ r ≡ plainFit state multiplier diagnostic owed ⌝ }
 {
     if 4 < state {
         return false;
@@ -15,22 +17,37 @@ fn numbers_fit(state: u8, multiplier: u8, diagnostic: u8, owed: u8, crossing: u8
     if 31 < diagnostic {
         return false;
     }
-    if 1 < owed {
-        return false;
-    }
-    crossing <= 1
+    owed <= 1
 }
 
-fn dates_fit(timed: u64, crossing: u8, crossed: u64, clock: u64) -> bool
-    ensures { λ r. ⌜ r ≡ datesFit timed crossing crossed clock ⌝ }
+fn crossing_fits(crossing: u8, crossed: u64, clock: u64) -> bool
+    ensures { λ r. ⌜ r ≡ crossingFits crossing crossed clock ⌝ }
 {
-    if clock < timed {
+    if 1 < crossing {
         return false;
     }
     if crossing == 0 {
         return true;
     }
     crossed <= clock
+}
+
+fn is_calm(crossing: u8, first: u8, second: u8, third: u8, fourth: u8) -> bool
+    ensures { λ r. ⌜ r ≡ calm crossing first second third fourth ⌝ }
+{
+    if crossing != 0 {
+        return false;
+    }
+    if first != 0 {
+        return false;
+    }
+    if second != 0 {
+        return false;
+    }
+    if third != 0 {
+        return false;
+    }
+    fourth == 0
 }
 
 fn remote_fits(state: u8, remote: u32) -> bool
@@ -42,19 +59,14 @@ fn remote_fits(state: u8, remote: u32) -> bool
     true
 }
 
-fn own_fits(s: Session, clock: u64) -> bool
-    ensures { λ r. ⌜ r ≡ ownFits s clock ⌝ }
+fn own_plain(s: Session, clock: u64) -> bool
+    ensures { λ r. ⌜ r ≡ ownPlain s clock ⌝ }
 {
-    if numbers_fit(
-        s.state,
-        s.peer.multiplier,
-        s.peer.diagnostic,
-        s.peer.owed,
-        s.crossing,
-    ) {
-        if dates_fit(s.timed, s.crossing, s.crossed, clock) {
-            return remote_fits(s.state, s.peer.remote);
+    if plain_fit(s.state, s.peer.multiplier, s.peer.diagnostic, s.peer.owed) {
+        if clock < s.timed {
+            return false;
         }
+        return remote_fits(s.state, s.peer.remote);
     }
     false
 }
@@ -65,9 +77,20 @@ pub fn session_sound(s: Session, clock: u64) -> bool
 {
     let settings = s.settings;
     if rules::settings_fit(settings) {
-        if own_fits(s, clock) {
-            let places = s.conditions;
-            return conditions::conditions_sound(places, clock);
+        if own_plain(s, clock) {
+            if is_calm(
+                s.crossing,
+                s.conditions.first.key.kind,
+                s.conditions.second.key.kind,
+                s.conditions.third.key.kind,
+                s.conditions.fourth.key.kind,
+            ) {
+                return true;
+            }
+            if crossing_fits(s.crossing, s.crossed, clock) {
+                let places = s.conditions;
+                return conditions::conditions_sound(places, clock);
+            }
         }
     }
     false

@@ -3,18 +3,16 @@ use crate::Peer;
 use crate::Session;
 use crate::queries::is_locked;
 use crate::queries::state_at;
-use bfd::Packet;
 use fault::Fault;
-use octets::bit;
-use octets::either;
-use rules::Input;
 use rules::Settings;
 use rules::State;
 ghost use mathlib.Core.Path.{_≡_};
-ghost use mathlib.Core.Bool.{cond, not};
+ghost use mathlib.Core.Bool.{cond};
 ghost use Rattle.rules.specs.declared.State.the-variants.{Down};
+ghost use Rattle.rules.specs.States.{stored};
 ghost use Rattle.rules.specs.Conditions.{actsOn, faultState};
-ghost use Rattle.session.specs.Steps.{newSession, settled, lockedBy, unlockedAt, heardCc, heardCv, crossedAt, faultTaken, replySettled};
+ghost use Rattle.session.specs.Queries.{stateAt};
+ghost use Rattle.session.specs.Steps.{newSession, lockedBy, unlockedAt, replySettled};
 
 // A new session.
 pub fn opened_at(settings: Settings, reading: u64) -> Session
@@ -36,16 +34,6 @@ pub fn opened_at(settings: Settings, reading: u64) -> Session
         state: 1,
         crossing: 0,
     }
-}
-
-// TIMER, where there is a loss at the reading.
-pub fn settled_at(s: Session, reading: u64) -> Session
-    ensures { λ r. ⌜ r ≡ settled s reading ⌝ }
-{
-    let state = rules::stored_number(state_at(s, reading));
-    let mut next = s;
-    next.state = state;
-    next
 }
 
 // Lock.
@@ -102,52 +90,6 @@ pub fn unlocked_at(s: Session, reading: u64) -> Session
     next
 }
 
-// A heard CC.
-pub fn heard_cc(s: Session, reading: u64, p: Packet) -> Session
-    ensures { λ r. ⌜ r ≡ heardCc s reading p ⌝ }
-{
-    let from = state_at(s, reading);
-    let to = rules::move_by(from, rules::received_input(p.state));
-    let number = rules::stored_number(to);
-    let before = s.peer.owed == 1;
-    let owed = bit(either(p.poll, before));
-    let peer = Peer {
-        remote: p.my,
-        multiplier: p.multiplier,
-        diagnostic: p.diagnostic,
-        owed: owed,
-    };
-    let mut next = s;
-    next.timed = reading;
-    next.peer = peer;
-    next.state = number;
-    next
-}
-
-// A heard CV.
-pub fn heard_cv(s: Session, reading: u64) -> Session
-    ensures { λ r. ⌜ r ≡ heardCv s reading ⌝ }
-{
-    let state = rules::stored_number(state_at(s, reading));
-    let mut next = s;
-    next.timed = reading;
-    next.state = state;
-    next
-}
-
-// A crossed CC or CV.
-pub fn crossed_at(s: Session, reading: u64) -> Session
-    ensures { λ r. ⌜ r ≡ crossedAt s reading ⌝ }
-{
-    let to = rules::move_by(state_at(s, reading), Input::Crossed);
-    let number = rules::stored_number(to);
-    let mut next = s;
-    next.crossed = reading;
-    next.crossing = 1;
-    next.state = number;
-    next
-}
-
 fn follows_fault(settings: Settings, f: Fault) -> bool
     ensures { λ r. ⌜ r ≡ actsOn settings f ⌝ }
 {
@@ -166,20 +108,14 @@ fn state_by_fault(acts: bool, from: State, kind: u8) -> State
     from
 }
 
-// An accepted fault message.
-pub fn fault_taken(s: Session, reading: u64, f: Fault) -> Session
-    ensures { λ r. ⌜ r ≡ faultTaken s reading f ⌝ }
+// The state that an accepted fault message leaves, as it is stored.
+pub(crate) fn fault_state(s: Session, reading: u64, f: Fault) -> u8
+    ensures { λ r. ⌜ r ≡ stored (faultState (actsOn (s .settings) f) (stateAt s reading) (f .kind)) ⌝ }
 {
     let settings = s.settings;
-    let places = s.conditions;
     let acts = follows_fault(settings, f);
     let to = state_by_fault(acts, state_at(s, reading), f.kind);
-    let number = rules::stored_number(to);
-    let taken = conditions::taken_in(places, f, reading);
-    let mut next = s;
-    next.conditions = taken;
-    next.state = number;
-    next
+    rules::stored_number(to)
 }
 
 // A written CC settles the reply owed.
