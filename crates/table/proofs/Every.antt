@@ -18,7 +18,7 @@ both-not : (a b : Bool) → not (not a || b) ≡ a && not b
 both-not true b = refl
 both-not false b = refl
 
-every-cons : (p : Session → Bool) (r : Session) (rs : List Session) → every p (r ∷ rs) ≡ p r && every p rs
+pub every-cons : (p : Session → Bool) (r : Session) (rs : List Session) → every p (r ∷ rs) ≡ p r && every p rs
 unfolding any
 every-cons p r rs = both-not (p r) (any (λ x. not (p x)) rs)
 
