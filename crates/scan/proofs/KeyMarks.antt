@@ -1,20 +1,22 @@
--- The keys of the first pairs, one more at a time; and marks, which stand for every key that was there.
+-- The keys of the first pairs, one more at a time; the marks and the kept keys, which stand for every key that was there; and the first place of a label.
 -- Assumes nothing.
 use mathlib.Core.Path.{_≡_, refl, sym, ap, _∙_}
 use mathlib.Core.Bool.{Bool, true, false, not, _&&_, _||_}
-use mathlib.Core.List.{List, [], _∷_, _++_, map, map-append}
+use mathlib.Core.List.{List, [], _∷_, _++_, map, map-append, append-nil}
 use mathlib.Core.Logic.{⊎-elim}
 use Prim.Native.Nat.{ℕ, zero, suc, _+_, _%_, _≤_, _<_, min}
 use native.Mathlib.Omega.{arith}
 use native.Mathlib.Numerals.{add-one}
-use lib.ListN.{length, length-set, getD, set, take, drop, take-append-drop}
-use lib.Seq.{take-suc, take-all, take-take, getD-set-same, getD-set-other}
+use lib.ListN.{length, length-set, getD, set, take, drop, replicate, length-replicate, take-append-drop}
+use lib.Seq.{take-suc, take-all, take-take, drop-cons, getD-set-same, getD-set-other}
 use lib.Dec.{eqb, leb}
-use borrow.Author.Tests.{eqb-true, eqb-false, eq-eqb, ne-eqb, leb-true, leb-false}
+use borrow.Author.Tests.{eqb-true, eqb-false, eq-eqb, ne-eqb, leb-true, leb-false, lt-ltb, le-ltb}
 use Rattle.rules.specs.Lists.{any, once}
-use Rattle.rules.proofs.Bools.{split, no-way, or-cases, or-left, refuted, true-false}
+use Rattle.rules.proofs.Bools.{split, no-way, or-cases, or-left, or-right, refuted, true-false}
 use Rattle.rules.proofs.Lists.{Inserted, any-inserted, once-inserted, once-head, once-rest, once-cons, numbers-alike}
-use Rattle.scan.specs.Distinct.{keyIn, keys, distinctIn}
+use Rattle.scan.specs.Distinct.{keyIn, filled, keys, distinctIn, reachOf, reached, firstWith, placeIn}
+
+-- ---- lists of numbers
 
 at-end : (x : ℕ) (xs : List ℕ) → Inserted x xs (xs ++ (x ∷ []))
 at-end x [] = Inserted.here
@@ -35,83 +37,118 @@ once-front (x ∷ xs) ys e =
     once-cons eqb numbers-alike x xs (any-front (eqb x) xs ys (once-head eqb numbers-alike x (xs ++ ys) e))
     (once-front xs ys (once-rest eqb numbers-alike x (xs ++ ys) e))
 
+-- one element more is looked at, and in the end all
+pub any-take-none : (p : ℕ → Bool) (xs : List ℕ) → any p (take 0 xs) ≡ false
+unfolding any
+any-take-none p xs = refl
+
+pub any-take-more : (p : ℕ → Bool) (xs : List ℕ) (i : ℕ) → i < length xs → any p (take (i + 1) xs) ≡ p (getD xs i 0) || any p (take i xs)
+any-take-more p xs i h = rw (add-one, take-suc xs i 0 h) (any-inserted p (at-end (getD xs i 0) (take i xs)))
+
+pub any-take-all : (p : ℕ → Bool) (xs : List ℕ) (i : ℕ) → length xs ≤ i → any p (take i xs) ≡ any p xs
+any-take-all p xs i h = ap (any p) (take-all i xs h)
+
+-- a list has no more elements than it is long
+pub take-most : (xs : List ℕ) (count : ℕ) → take (min count (length xs)) xs ≡ take count xs
+take-most xs count =
+    split (leb (length xs) count)
+    (λ t. let h : length xs ≤ count = leb-true (length xs) count t in take-all (min count (length xs)) xs (omega arith) ∙ sym (take-all count xs h))
+    (λ t. let h : count < length xs = leb-false (length xs) count t in
+    let e : min count (length xs) ≡ count = omega arith in ap (λ (n : ℕ). take n xs) e)
+
+-- an element that passes the test
+any-here : (p : ℕ → Bool) (xs : List ℕ) (i : ℕ) → i < length xs → p (getD xs i 0) ≡ true → any p xs ≡ true
+unfolding any
+any-here p [] i h e = absurd (omega arith)
+any-here p (x ∷ xs) zero h e = or-left (any p xs) e
+any-here p (x ∷ xs) (suc i) h e = or-right (p x) (any-here p xs i (omega arith) e)
+
+first-set : (v x r : Bool) → (v || r) || x ≡ v || (x || r)
+first-set true x r = refl
+first-set false true true = refl
+first-set false true false = refl
+first-set false false true = refl
+first-set false false false = refl
+
+later-set : (v x s g r : Bool) → s || g ≡ v || r → (x || s) || g ≡ v || (x || r)
+later-set true true s g r e = refl
+later-set false true s g r e = refl
+later-set true false s g r e = e
+later-set false false s g r e = e
+
+-- one element put in the place of another
+any-set : (p : ℕ → Bool) (xs : List ℕ) (i v : ℕ) → i < length xs → any p (set xs i v) || p (getD xs i 0) ≡ p v || any p xs
+unfolding any
+any-set p [] i v h = absurd (omega arith)
+any-set p (x ∷ xs) zero v h = first-set (p v) (p x) (any p xs)
+any-set p (x ∷ xs) (suc i) v h = later-set (p v) (p x) (any p (set xs i v)) (p (getD xs i 0)) (any p xs) (any-set p xs i v (omega arith))
+
+-- ---- the keys of the first pairs
+
+filled-append : (xs ys : List ℕ) → filled (xs ++ ys) ≡ filled xs ++ filled ys
+unfolding filled
+filled-append [] ys = refl
+filled-append (x ∷ xs) ys = split (eqb x 0) (λ e. rw e (filled-append xs ys)) (λ e. rw e (ap (λ (l : List ℕ). x ∷ l) (filled-append xs ys)))
+
 module _ (labels : Bool) (pairs : List ℕ) where
-  -- one pair more
-  keys-more : (i : ℕ) → i < length pairs → keys labels (i + 1) pairs ≡ keys labels i pairs ++ (keyIn labels (getD pairs i 0) ∷ [])
-  keys-more i h = rw (add-one, take-suc pairs i 0 h) (map-append (keyIn labels) (take i pairs) (getD pairs i 0 ∷ []))
+  abbrev keysOf : List ℕ → List ℕ
+  keysOf ps = map (keyIn labels) (filled ps)
+
+  keys-append : (xs ys : List ℕ) → keysOf (xs ++ ys) ≡ keysOf xs ++ keysOf ys
+  keys-append xs ys = ap (map (keyIn labels)) (filled-append xs ys) ∙ map-append (keyIn labels) (filled xs) (filled ys)
+
+  keys-step : (i : ℕ) → i < length pairs → keys labels (i + 1) pairs ≡ keys labels i pairs ++ keysOf (getD pairs i 0 ∷ [])
+  keys-step i h = rw (add-one, take-suc pairs i 0 h) (keys-append (take i pairs) (getD pairs i 0 ∷ []))
+
+  -- a place where none was noted, and one pair more
+  pub keys-same : (i : ℕ) → i < length pairs → getD pairs i 0 ≡ 0 → keys labels (i + 1) pairs ≡ keys labels i pairs
+  unfolding filled
+  keys-same i h e = keys-step i h ∙ rw (eq-eqb (getD pairs i 0) 0 e) (append-nil (keys labels i pairs))
+
+  pub keys-more : (i : ℕ) → i < length pairs → (getD pairs i 0 ≡ 0 → ⊥) → keys labels (i + 1) pairs ≡ keys labels i pairs ++ (keyIn labels (getD pairs i 0) ∷ [])
+  unfolding filled
+  keys-more i h e = keys-step i h ∙ rw (ne-eqb (getD pairs i 0) 0 e)
 
   -- there are no more keys than pairs
-  pub keys-all : (count : ℕ) → keys labels (min count (length pairs)) pairs ≡ keys labels count pairs
-  keys-all count =
-      split (leb (length pairs) count)
-      (λ t. let h : length pairs ≤ count = leb-true (length pairs) count t in
-      ap (map (keyIn labels)) (take-all (min count (length pairs)) pairs (omega arith) ∙ sym (take-all count pairs h)))
-      (λ t. let h : count < length pairs = leb-false (length pairs) count t in
-      let e : min count (length pairs) ≡ count = omega arith in ap (λ (n : ℕ). keys labels n pairs) e)
+  keys-all : (count : ℕ) → keys labels (min count (length pairs)) pairs ≡ keys labels count pairs
+  keys-all count = ap keysOf (take-most pairs count)
 
-  pub any-none : (p : ℕ → Bool) → any p (keys labels 0 pairs) ≡ false
-  unfolding any
-  any-none p = refl
-
-  pub any-more : (p : ℕ → Bool) (i : ℕ) → i < length pairs
-      → any p (keys labels (i + 1) pairs) ≡ p (keyIn labels (getD pairs i 0)) || any p (keys labels i pairs)
-  any-more p i h = rw (keys-more i h) (any-inserted p (at-end (keyIn labels (getD pairs i 0)) (keys labels i pairs)))
-
-  -- the key of the next pair is the one that is looked for, or is not
-  pub found-here : (key i : ℕ) → i < length pairs → keyIn labels (getD pairs i 0) ≡ key → any (eqb key) (keys labels (i + 1) pairs) ≡ true
-  found-here key i h e = any-more (eqb key) i h ∙ or-left (any (eqb key) (keys labels i pairs)) (eq-eqb key (keyIn labels (getD pairs i 0)) (sym e))
-
-  pub not-here : (key i : ℕ) → i < length pairs → (keyIn labels (getD pairs i 0) ≡ key → ⊥)
-      → any (eqb key) (keys labels (i + 1) pairs) ≡ any (eqb key) (keys labels i pairs)
-  not-here key i h d = any-more (eqb key) i h ∙ rw (ne-eqb key (keyIn labels (getD pairs i 0)) (λ z. d (sym z)))
-
-  once-more : (i : ℕ) → i < length pairs
-      → once eqb (keys labels (i + 1) pairs) ≡ not (any (eqb (keyIn labels (getD pairs i 0))) (keys labels i pairs)) && once eqb (keys labels i pairs)
-  once-more i h = rw (keys-more i h) (once-inserted eqb numbers-alike (at-end (keyIn labels (getD pairs i 0)) (keys labels i pairs)))
-
-  -- a key that was not there
-  pub still-once : (i : ℕ) → i < length pairs → any (eqb (keyIn labels (getD pairs i 0))) (keys labels i pairs) ≡ false
-      → once eqb (keys labels i pairs) ≡ true → once eqb (keys labels (i + 1) pairs) ≡ true
-  still-once i h f o = once-more i h ∙ rw f o
-
-  -- a key that was there
-  pub twice : (i count : ℕ) → i < length pairs → i < count → any (eqb (keyIn labels (getD pairs i 0))) (keys labels i pairs) ≡ true
-      → distinctIn labels count pairs ≡ false
+  -- a key that was there, or is 0
+  pub twice : (i count : ℕ) → i < length pairs → i < count → (getD pairs i 0 ≡ 0 → ⊥)
+      → any (eqb (keyIn labels (getD pairs i 0))) (0 ∷ keys labels i pairs) ≡ true → distinctIn labels count pairs ≡ false
   unfolding distinctIn
-  twice i count h k t = refuted (once eqb (keys labels count pairs)) (λ z. true-false (front z) (once-more i h ∙ rw t))
+  twice i count h k d t =
+      refuted (once eqb (0 ∷ keys labels count pairs))
+      (λ z. true-false (front z) (once-inserted eqb numbers-alike (at-end (keyIn labels (getD pairs i 0)) (0 ∷ keys labels i pairs)) ∙ rw t))
     where
-      cut : keys labels count pairs ≡ keys labels (i + 1) pairs ++ map (keyIn labels) (drop (i + 1) (take count pairs))
+      cut : keys labels count pairs ≡ (keys labels i pairs ++ (keyIn labels (getD pairs i 0) ∷ [])) ++ keysOf (drop (i + 1) (take count pairs))
       cut =
-          sym
-          (ap (λ (l : List ℕ). map (keyIn labels) l ++ map (keyIn labels) (drop (i + 1) (take count pairs))) (sym (take-take (i + 1) count pairs (omega arith)))
-          ∙ sym (map-append (keyIn labels) (take (i + 1) (take count pairs)) (drop (i + 1) (take count pairs)))
-          ∙ ap (map (keyIn labels)) (take-append-drop (i + 1) (take count pairs)))
+          ap keysOf (sym (take-append-drop (i + 1) (take count pairs)))
+          ∙ keys-append (take (i + 1) (take count pairs)) (drop (i + 1) (take count pairs))
+          ∙ ap (λ (l : List ℕ). keysOf l ++ keysOf (drop (i + 1) (take count pairs))) (take-take (i + 1) count pairs (omega arith))
+          ∙ ap (λ (l : List ℕ). l ++ keysOf (drop (i + 1) (take count pairs))) (keys-more i h d)
 
-      front : once eqb (keys labels count pairs) ≡ true → once eqb (keys labels (i + 1) pairs) ≡ true
-      front z = once-front (keys labels (i + 1) pairs) _ (rw cut at z)
+      front : once eqb (0 ∷ keys labels count pairs) ≡ true → once eqb ((0 ∷ keys labels i pairs) ++ (keyIn labels (getD pairs i 0) ∷ [])) ≡ true
+      front z = once-front ((0 ∷ keys labels i pairs) ++ (keyIn labels (getD pairs i 0) ∷ [])) (keysOf (drop (i + 1) (take count pairs))) (rw cut at z)
 
-  pub distinct-all : (count : ℕ) → once eqb (keys labels (min count (length pairs)) pairs) ≡ true → distinctIn labels count pairs ≡ true
+  pub distinct-all : (count : ℕ) → once eqb (0 ∷ keys labels (min count (length pairs)) pairs) ≡ true → distinctIn labels count pairs ≡ true
   unfolding distinctIn
-  distinct-all count o = ap (once eqb) (sym (keys-all count)) ∙ o
+  distinct-all count o = ap (λ (l : List ℕ). once eqb (0 ∷ l)) (sym (keys-all count)) ∙ o
 
-  pub once-none : once eqb (keys labels 0 pairs) ≡ true
-  unfolding once
-  once-none = refl
+-- there are no more places than 64
+pub reach-most : (occupied : ℕ) → reachOf occupied ≤ 64
+unfolding reachOf
+reach-most occupied = omega arith
 
-under-two : (labels : Bool) (pairs : List ℕ) (n : ℕ) → n < 2 → once eqb (keys labels n pairs) ≡ true
-unfolding once any
-under-two labels pairs zero h = refl
-under-two labels [] (suc zero) h = refl
-under-two labels (p ∷ ps) (suc zero) h = refl
-under-two labels pairs (suc (suc n)) h = absurd (omega arith)
+-- ---- marks and kept keys
 
--- fewer than two are apart
-pub few : (labels : Bool) (pairs : List ℕ) (count : ℕ) → min count (length pairs) < 2 → distinctIn labels count pairs ≡ true
-few labels pairs count h = distinct-all labels pairs count (under-two labels pairs (min count (length pairs)) h)
+pub and-false : (a : Bool) {b : Bool} → b ≡ false → false ≡ a && b
+and-false true e = sym e
+and-false false e = refl
 
--- the marks of all keys so far are there
-abbrev pub Marked : Bool → List ℕ → ℕ → List Bool → Type 0
-Marked labels pairs i marks = (x : ℕ) → any (eqb x) (keys labels i pairs) ≡ true → getD marks (x % 1024) false ≡ true
+pub neither : (a b : Bool) → a || b ≡ false → (a ≡ false) × (b ≡ false)
+neither true b e = no-way refl e
+neither false b e = (refl, e)
 
 set-stays : (marks : List Bool) (at j : ℕ) → at < length marks → getD marks j false ≡ true → getD (set marks at true) j false ≡ true
 set-stays marks at j h e =
@@ -119,55 +156,129 @@ set-stays marks at j h e =
     (λ t. ap (λ (k : ℕ). getD (set marks at true) k false) (eqb-true j at t) ∙ getD-set-same marks at true false h)
     (λ f. getD-set-other marks at j true false (eqb-false j at f) ∙ e)
 
-module _ (labels : Bool) (pairs : List ℕ) where
-  -- a key without its mark was not there
-  pub unmarked : (i : ℕ) (marks : List Bool) → Marked labels pairs i marks
-      → (x : ℕ) → getD marks (x % 1024) false ≡ false → any (eqb x) (keys labels i pairs) ≡ false
-  unmarked i marks m x f = refuted (any (eqb x) (keys labels i pairs)) (λ z. true-false (m x z) f)
-
-  pub marked-more : (i : ℕ) (marks : List Bool) → i < length pairs → length marks ≡ 1024 → Marked labels pairs i marks
-      → Marked labels pairs (i + 1) (set marks (keyIn labels (getD pairs i 0) % 1024) true)
-  marked-more i marks h n m x e =
-      let at = keyIn labels (getD pairs i 0) % 1024 in
-      let k : at < length marks = omega arith in
-      ⊎-elim
-      (λ q. ap (λ (y : ℕ). getD (set marks at true) (y % 1024) false) (eqb-true x (keyIn labels (getD pairs i 0)) q) ∙ getD-set-same marks at true false k)
-      (λ q. set-stays marks at (x % 1024) k (m x q))
-      (or-cases (eqb x (keyIn labels (getD pairs i 0))) (any (eqb x) (keys labels i pairs)) (sym (any-more labels pairs (eqb x) i h) ∙ e))
-
-pub neither : (a b : Bool) → a || b ≡ false → (a ≡ false) × (b ≡ false)
-neither true b e = no-way refl e
-neither false b e = (refl, e)
-
--- i pairs were seen: their keys are apart, and the marks of those are set
-pub record Seen (labels : Bool) (pairs : List ℕ) (i : ℕ) (marks : List Bool) : Type 0 where
+-- the keys so far are apart from each other and from 0; the marks of all are set; each is kept, and from place i on nothing is
+pub record Seen (ks : List ℕ) (i : ℕ) (marks : List Bool) (kept : List ℕ) : Type 0 where
   pub size : length marks ≡ 1024
-  pub apart : once eqb (keys labels i pairs) ≡ true
-  pub marked : Marked labels pairs i marks
+  pub room : length kept ≡ 64
+  pub apart : once eqb (0 ∷ ks) ≡ true
+  pub marked : (x : ℕ) → any (eqb x) (0 ∷ ks) ≡ true → getD marks (x % 1024) false ≡ true
+  pub holds : (x : ℕ) → any (eqb x) kept || eqb x 0 ≡ any (eqb x) (0 ∷ ks)
+  pub free : (j : ℕ) → i ≤ j → getD kept j 0 ≡ 0
 
-module _ (labels : Bool) (pairs : List ℕ) where
-  none-seen : (marks : List Bool) → length marks ≡ 1024 → Seen labels pairs 0 marks
-  none-seen marks n = record { size = n; apart = once-none labels pairs; marked = λ x z. no-way z (any-none labels pairs (eqb x)) }
+-- of noughts, none but 0 is kept
+any-noughts : (n x : ℕ) → any (eqb x) (replicate n 0) || eqb x 0 ≡ eqb x 0 || false
+unfolding any
+any-noughts zero x = split (eqb x 0) (λ e. rw e) (λ e. rw e)
+any-noughts (suc n) x = let rest = any-noughts n x in split (eqb x 0) (λ e. rw e) (λ e. rw e (rw e at rest))
 
+nought-at : (n j : ℕ) → _≡_ {A = ℕ} (getD (replicate n 0) j 0) 0
+nought-at zero j = refl
+nought-at (suc n) zero = refl
+nought-at (suc n) (suc j) = nought-at n j
+
+pub seen-none : Seen [] 0 (set (replicate 1024 false) 0 true) (replicate 64 0)
+unfolding once any
+seen-none = record {
+  size = length-set (replicate 1024 false) 0 true ∙ length-replicate {A = Bool} 1024 false;
+  room = length-replicate {A = ℕ} 64 0;
+  apart = refl;
+  marked = λ x z. ⊎-elim
+      (λ q. ap (λ (y : ℕ). getD (set (replicate 1024 false) 0 true) (y % 1024) false) (eqb-true x 0 q))
+      (λ q. no-way q refl)
+      (or-cases (eqb x 0) false z);
+  holds = any-noughts 64;
+  free = λ j _. nought-at 64 j;
+}
+
+module _ (ks : List ℕ) (i : ℕ) (marks : List Bool) (kept : List ℕ) (s : Seen ks i marks kept) where
   -- a key without its mark is a new one
-  pub seen-new : (i : ℕ) (marks : List Bool) → Seen labels pairs i marks
-      → (x : ℕ) → getD marks (x % 1024) false ≡ false → any (eqb x) (keys labels i pairs) ≡ false
-  seen-new i marks s x f = unmarked labels pairs i marks (s .marked) x f
+  pub seen-new : (x : ℕ) → getD marks (x % 1024) false ≡ false → any (eqb x) (0 ∷ ks) ≡ false
+  seen-new x f = refuted (any (eqb x) (0 ∷ ks)) (λ z. true-false (s .marked x z) f)
 
-  -- one pair more, whose key is new
-  pub seen-more : (i : ℕ) (marks : List Bool) → i < length pairs → Seen labels pairs i marks
-      → any (eqb (keyIn labels (getD pairs i 0))) (keys labels i pairs) ≡ false
-      → Seen labels pairs (i + 1) (set marks (keyIn labels (getD pairs i 0) % 1024) true)
-  seen-more i marks h s new =
-      record {
-        size = simp length-set (s .size);
-        apart = still-once labels pairs i h new (s .apart);
-        marked = marked-more labels pairs i marks h (s .size) (s .marked);
-      }
+  -- where a place is free, a search finds just the keys so far, and 0
+  pub found-kept : (x : ℕ) → i < 64 → any (eqb x) kept ≡ any (eqb x) (0 ∷ ks)
+  found-kept x h =
+      split (eqb x 0)
+      (λ e.
+      let here : any (eqb x) kept ≡ true = any-here (eqb x) kept i (omega (arith, s .room)) (rw (s .free i (omega arith)) e) in
+      here ∙ sym (sym (s .holds x) ∙ or-left (eqb x 0) here))
+      (λ e. or-none (any (eqb x) kept) e ∙ s .holds x)
+    where
+      or-none : (a : Bool) {b : Bool} → b ≡ false → a ≡ a || b
+      or-none true p = refl
+      or-none false p = sym p
 
-  pub seen-first : (marks : List Bool) → length marks ≡ 1024 → 0 < length pairs
-      → Seen labels pairs 1 (set marks (keyIn labels (getD pairs 0 0) % 1024) true)
-  seen-first marks n h = seen-more 0 marks h (none-seen marks n) (any-none labels pairs (eqb (keyIn labels (getD pairs 0 0))))
+  -- a place where none was noted
+  pub seen-same : Seen ks (i + 1) marks kept
+  seen-same = record {
+    size = s .size;
+    room = s .room;
+    apart = s .apart;
+    marked = s .marked;
+    holds = s .holds;
+    free = λ j h. s .free j (omega (arith, h));
+  }
 
-  pub seen-all : (count : ℕ) (marks : List Bool) → Seen labels pairs (min count (length pairs)) marks → distinctIn labels count pairs ≡ true
-  seen-all count marks s = distinct-all labels pairs count (s .apart)
+  -- one key more, which is a new one
+  pub seen-more : (x : ℕ) → i < 64 → any (eqb x) (0 ∷ ks) ≡ false → Seen (ks ++ (x ∷ [])) (i + 1) (set marks (x % 1024) true) (set kept i x)
+  seen-more x h new = record {
+    size = length-set marks (x % 1024) true ∙ s .size;
+    room = length-set kept i x ∙ s .room;
+    apart = once-inserted eqb numbers-alike (at-end x (0 ∷ ks)) ∙ rw new (s .apart);
+    marked = marked-more;
+    holds = holds-more;
+    free = λ j g. getD-set-other kept i j x 0 (λ e. omega (arith, g, e)) ∙ s .free j (omega (arith, g));
+  }
+    where
+      at : x % 1024 < length marks
+      at = omega (arith, s .size)
+
+      marked-more : (y : ℕ) → any (eqb y) (0 ∷ (ks ++ (x ∷ []))) ≡ true → getD (set marks (x % 1024) true) (y % 1024) false ≡ true
+      marked-more y e =
+          ⊎-elim
+          (λ q. ap (λ (k : ℕ). getD (set marks (x % 1024) true) (k % 1024) false) (eqb-true y x q) ∙ getD-set-same marks (x % 1024) true false at)
+          (λ q. set-stays marks (x % 1024) (y % 1024) at (s .marked y q))
+          (or-cases (eqb y x) (any (eqb y) (0 ∷ ks)) (sym (any-inserted (eqb y) (at-end x (0 ∷ ks))) ∙ e))
+
+      holds-more : (y : ℕ) → any (eqb y) (set kept i x) || eqb y 0 ≡ any (eqb y) (0 ∷ (ks ++ (x ∷ [])))
+      holds-more y =
+          ap (λ (n : ℕ). any (eqb y) (set kept i x) || eqb y n) (sym (s .free i (omega arith)))
+          ∙ any-set (eqb y) kept i x (omega (arith, s .room))
+          ∙ ap (λ (b : Bool). eqb y x || b) (found-kept y h)
+          ∙ sym (any-inserted (eqb y) (at-end x (0 ∷ ks)))
+
+-- the same as the code has it: by what is known of its numbers and of its lists
+pub seen-still : (ks ks′ : List ℕ) (i : ℕ) (marks marks′ : List Bool) (kept kept′ : List ℕ) → Seen ks i marks kept → ks′ ≡ ks → marks′ ≡ marks → kept′ ≡ kept → Seen ks′ (i + 1) marks′ kept′
+seen-still ks ks′ i marks marks′ kept kept′ s e f g = rw (e, f, g) (seen-same ks i marks kept s)
+
+pub seen-next : (ks ks′ : List ℕ) (i : ℕ) (marks marks′ : List Bool) (kept kept′ : List ℕ) (x z : ℕ) → Seen ks i marks kept → i < 64 → any (eqb x) (0 ∷ ks) ≡ false
+    → z ≡ x → ks′ ≡ ks ++ (x ∷ []) → marks′ ≡ set marks (z % 1024) true → kept′ ≡ set kept i z → Seen ks′ (i + 1) marks′ kept′
+seen-next ks ks′ i marks marks′ kept kept′ x z s h new d e f g = rw (e, f, g, d) (seen-more ks i marks kept s x h new)
+
+-- ---- the first place of a label
+
+-- the places before i have it not
+pub with-none : (label : ℕ) (pairs : List ℕ) → firstWith label pairs ≡ 0 + firstWith label (drop 0 pairs)
+with-none label pairs = omega arith
+
+pub with-here : (label : ℕ) (pairs : List ℕ) (i : ℕ) → i < length pairs → keyIn true (getD pairs i 0) ≡ label → firstWith label (drop i pairs) ≡ 0
+unfolding firstWith
+with-here label pairs i h e = ap (firstWith label) (drop-cons pairs i 0 h) ∙ rw (eq-eqb (keyIn true (getD pairs i 0)) label e)
+
+pub with-later : (label : ℕ) (pairs : List ℕ) (i : ℕ) → i < length pairs → (keyIn true (getD pairs i 0) ≡ label → ⊥)
+    → firstWith label (drop i pairs) ≡ suc (firstWith label (drop (i + 1) pairs))
+unfolding firstWith
+with-later label pairs i h d = ap (firstWith label) (drop-cons pairs i 0 h) ∙ rw (ne-eqb (keyIn true (getD pairs i 0)) label d, add-one)
+
+-- what the search for a label gives: a place that the set reaches, or none
+pub place-found : (label occupied : ℕ) (pairs : List ℕ) (n : ℕ) → (label ≡ 0 → ⊥) → firstWith label (reached occupied pairs) ≡ n → n < length (reached occupied pairs) → placeIn label occupied pairs ≡ n
+unfolding placeIn
+place-found label occupied pairs n d e h = rw (ne-eqb label 0 d, e, lt-ltb n (length (reached occupied pairs)) h)
+
+pub place-none : (label occupied : ℕ) (pairs : List ℕ) → (label ≡ 0 → ⊥) → length (reached occupied pairs) ≤ firstWith label (reached occupied pairs) → placeIn label occupied pairs ≡ length pairs
+unfolding placeIn
+place-none label occupied pairs d h = rw (ne-eqb label 0 d, le-ltb (firstWith label (reached occupied pairs)) (length (reached occupied pairs)) h)
+
+pub place-zero : (label occupied : ℕ) (pairs : List ℕ) → label ≡ 0 → placeIn label occupied pairs ≡ length pairs
+unfolding placeIn
+place-zero label occupied pairs e = rw (eq-eqb label 0 e)

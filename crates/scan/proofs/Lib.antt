@@ -1,2 +1,3 @@
 pub mod KeyMarks
+pub mod RowPairs
 pub mod Scanned

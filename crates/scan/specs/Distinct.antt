@@ -1,23 +1,53 @@
--- No two alike among the keys of open records. A key pair has a record's label and discriminator in one number, so that one pass gathers both.
+-- The keys of open records. A key pair has a record's label and discriminator in one number; each is noted at its record's place, and 0 stands where none was.
 -- Assumes nothing.
-use Prim.Native.Nat.{ℕ, _+_, _*_, _/_, _%_}
-use mathlib.Core.Bool.{Bool, cond}
-use mathlib.Core.List.{List, map}
-use lib.ListN.{take}
-use lib.Dec.{eqb}
-use Rattle.rules.specs.Lists.{once}
+use Prim.Native.Nat.{ℕ, suc, _+_, _-_, _*_, _/_, _%_}
+use mathlib.Core.Bool.{Bool, true, false, cond}
+use mathlib.Core.List.{List, [], _∷_, map}
+use lib.ListN.{length, take}
+use lib.Dec.{eqb, ltb}
+use lib.Count.{leadingZeros}
+use Rattle.rules.specs.Lists.{any, once}
 
--- a label that fits is below 1,048,576
+-- both are numbers of 32 bits
 abbrev pub keyPair : ℕ → ℕ → ℕ
-keyPair label discriminator = discriminator * 1048576 + label
+keyPair label discriminator = discriminator * 4294967296 + label
 
 -- the label of a pair, or its discriminator
 abbrev pub keyIn : Bool → ℕ → ℕ
-keyIn labels pair = cond labels (pair % 1048576) (pair / 1048576)
+keyIn labels pair = cond labels (pair % 4294967296) (pair / 4294967296)
+
+-- the pairs that were noted
+unfoldable pub filled : List ℕ → List ℕ
+filled [] = []
+filled (p ∷ ps) = cond (eqb p 0) (filled ps) (p ∷ filled ps)
 
 abbrev pub keys : Bool → ℕ → List ℕ → List ℕ
-keys labels count pairs = map (keyIn labels) (take count pairs)
+keys labels count pairs = map (keyIn labels) (filled (take count pairs))
 
--- the first pairs have no two labels alike, or no two discriminators
+-- the first pairs have no two labels alike, or no two discriminators; 0 is no key
 unfoldable pub distinctIn : Bool → ℕ → List ℕ → Bool
-distinctIn labels count pairs = once eqb (keys labels count pairs)
+distinctIn labels count pairs = once eqb (0 ∷ keys labels count pairs)
+
+-- how many places there are up to the last occupied one
+unfoldable pub reachOf : ℕ → ℕ
+reachOf occupied = 64 - leadingZeros 64 occupied
+
+abbrev pub reached : ℕ → List ℕ → List ℕ
+reached occupied pairs = take (reachOf occupied) pairs
+
+-- the first place with a label; behind them all where there is none
+unfoldable pub firstWith : ℕ → List ℕ → ℕ
+firstWith label [] = 0
+firstWith label (p ∷ ps) = cond (eqb (keyIn true p) label) 0 (suc (firstWith label ps))
+
+-- the same as far as the set reaches, and behind all pairs where there is none; 0 is no label
+unfoldable pub placeIn : ℕ → ℕ → List ℕ → ℕ
+placeIn label occupied pairs =
+    let place = firstWith label (reached occupied pairs) in
+    cond (eqb label 0) (length pairs) (cond (ltb place (length (reached occupied pairs))) place (length pairs))
+
+-- the label was found, or the discriminator is there; nobody asks for the discriminator 0
+unfoldable pub rivalIn : List ℕ → ℕ → ℕ → ℕ → Bool
+rivalIn pairs occupied place discriminator =
+    cond (ltb place (length pairs)) true
+    (cond (eqb discriminator 0) false (any (λ p. eqb (keyIn false p) discriminator) (reached occupied pairs)))

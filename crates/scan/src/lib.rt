@@ -1,5 +1,5 @@
-// The scan of a row, record by record: what one pass over the occupied places knows, by value. The
-// loop over a lent row stands above this crate.
+// The scan of a row: each open record by itself, its keys noted; then the keys, no two alike. What
+// the pass over the occupied places knows, by value. The loop over a lent row stands above this crate.
 mod keys;
 mod passing;
 
@@ -15,19 +15,16 @@ pub struct Target {
     pub discriminator: u32,
 }
 
-// What is known at a place of the row: the clock, the set from this place on, the place of the
-// label (64: none so far), how many open records there were, what is looked for, 1 while all of
-// them were sound, 1 once one had that label or discriminator. Two bools would leave a gap behind
-// them, which is copied in each turn.
+// What is known at a place of the row: the clock, the set of all open places, the set from this
+// place on, 0 while all open records were sound, what is looked for. A bool would leave a gap behind
+// it, which is copied in each turn.
 pub struct Progress {
     pub clock: u64,
+    pub occupied: u64,
     pub rest: u64,
-    pub place: usize,
-    pub count: usize,
+    pub fault: u64,
     pub label: u32,
     pub discriminator: u32,
-    pub sound: u32,
-    pub rival: u32,
 }
 
 // What the scan comes to. `sound` is false where 26 is due.

@@ -1,40 +1,33 @@
 -- `scan::keys::among` meets its contract.
 -- Assumes nothing.
-use Prim.Native.Nat.{ℕ, _≤_, _<_, _-_, min}
-use mathlib.Core.Path.{_≡_, sym, ap, _∙_}
+use Prim.Native.Nat.{_≤_, _<_, _-_}
+use mathlib.Core.Path.{_≡_, sym, _∙_}
 use mathlib.Core.Logic.{⊎-elim}
-use borrow.Author.Needs.{needs}
 use native.Mathlib.Omega.{arith}
-use lib.ListN.{length}
+use lib.ListN.{length, getD, take}
 use lib.Dec.{eqb}
+use borrow.Author.Tests.{eq-eqb, ne-eqb}
 use Rattle.rules.specs.Lists.{any}
-use Rattle.scan.specs.Distinct.{keys}
-use Rattle.scan.proofs.KeyMarks.{keys-all, any-none, found-here, not-here}
+use Rattle.rules.proofs.Bools.{or-left}
+use Rattle.scan.proofs.KeyMarks.{any-take-none, any-take-more, any-take-all}
 use Rattle.scan.proofs.keys.among.Statement.{statement}
 use Rattle.scan.proofs.keys.among.Tie as tie
 
 -- i keys are compared
 abbrev Inv-loop : tie.InvT-loop
-Inv-loop pairs count labels key n found₀ i₀ found i = (i ≤ n) × ((n ≡ min count (length pairs)) × (found ≡ any (eqb key) (keys labels i pairs)))
+Inv-loop keys key found₀ i₀ found i = (i ≤ length keys) × (found ≡ any (eqb key) (take i keys))
 
 abbrev μ-loop : tie.MeasureT-loop
-μ-loop pairs count labels key n found₀ i₀ found i = n - i
-
-least-requires : tie.Need-least-requires Inv-loop μ-loop
-least-requires c κs = search needs
+μ-loop keys key found₀ i₀ found i = length keys - i
 
 loop-holds : tie.Need-loop-holds Inv-loop μ-loop
-loop-holds c = let a = c .before .before .args in
-    (omega arith, (c .least .ensures, sym (any-none (a .labels) (a .pairs .now) (eqb (a .key)))))
+loop-holds c = (omega arith, sym (any-take-none (eqb (c .args .key)) (c .args .keys .now)))
 
-mul-key-in : tie.Need-mul-key-in Inv-loop μ-loop
-mul-key-in c = omega arith
+mul-if1 : tie.Need-mul-if1 Inv-loop μ-loop
+mul-if1 c = omega arith
 
-shared-slice-read-key-in : tie.Need-shared-slice-read-key-in Inv-loop μ-loop
-shared-slice-read-key-in c = omega arith
-
-key-in-requires : tie.Need-key-in-requires Inv-loop μ-loop
-key-in-requires c κs = search needs
+shared-slice-read-if1 : tie.Need-shared-slice-read-if1 Inv-loop μ-loop
+shared-slice-read-if1 c = omega arith
 
 add-i : tie.Need-add-i Inv-loop μ-loop
 add-i c = omega arith
@@ -43,28 +36,23 @@ loop-less : tie.Need-loop-less Inv-loop μ-loop
 loop-less c = omega arith
 
 loop-again : tie.Need-loop-again Inv-loop μ-loop
-loop-again c = let a = c .before .before .before .before .before .before .before .args in
-    let l = c .before .before .before .before .loop in
-    let h : l .i < length (a .pairs .now) = omega arith in
-    let e = c .before .key-in .ensures in (
+loop-again c =
+    let a = c .before .before .before .before .args in
+    let l = c .before .before .before .loop in
+    let h : l .i < length (a .keys .now) = omega arith in
+    let more = any-take-more (eqb (a .key)) (a .keys .now) (l .i) h in (
       omega arith,
-      (
-        l .inv .1 .0,
-        ⊎-elim
-            (λ w. w .1 ∙ sym (found-here (a .labels) (a .pairs .now) (a .key) (l .i) h (sym e ∙ w .0 .taken)))
-            (λ w. w .1 ∙ l .inv .1 .1 ∙ sym (not-here (a .labels) (a .pairs .now) (a .key) (l .i) h (λ z. w .0 .left (e ∙ z))))
-            (c .if1 .came),
-      ),
+      ⊎-elim
+          (λ w. w .1 ∙ sym (more ∙ or-left (any (eqb (a .key)) (take (l .i) (a .keys .now))) (eq-eqb (a .key) (getD (a .keys .now) (l .i) 0) (sym (w .0 .taken)))))
+          (λ w. w .1 ∙ l .inv .1 ∙ sym (more ∙ rw (ne-eqb (a .key) (getD (a .keys .now) (l .i) 0) (λ z. w .0 .left (sym z)))))
+          (c .if1 .came),
     )
 
 returns : tie.Need-returns Inv-loop μ-loop
-returns c = let a = c .before .before .before .before .args in
+returns c =
+    let a = c .before .before .args in
     let l = c .before .loop in
-    let e : l .i ≡ min (a .count) (length (a .pairs .now)) = omega arith in
-    l .inv .1 .1 ∙ ap (λ (n : ℕ). any (eqb (a .key)) (keys (a .labels) n (a .pairs .now))) e
-    ∙ ap (any (eqb (a .key))) (keys-all (a .labels) (a .pairs .now) (a .count))
+    l .inv .1 ∙ any-take-all (eqb (a .key)) (a .keys .now) (l .i) (omega arith)
 
 pub among-spec : {M : Type 1} → statement M
-among-spec =
-    tie.close
-    (tie.spec Inv-loop μ-loop least-requires loop-holds mul-key-in shared-slice-read-key-in key-in-requires add-i loop-less loop-again returns)
+among-spec = tie.close (tie.spec Inv-loop μ-loop loop-holds mul-if1 shared-slice-read-if1 add-i loop-less loop-again returns)

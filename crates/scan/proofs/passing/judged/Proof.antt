@@ -11,4 +11,7 @@ judged-spec =
     tie.close
     (tie.spec
     (λ c κs. search needs)
-    (λ c. rw (c .before .apart-by .ensures)))
+    (λ c κs. search needs)
+    (λ c κs. search needs)
+    (λ c κs. search needs)
+    (λ c. rw (c .both .ensures, c .before .before .rival-in .ensures, c .before .before .before .place-in .ensures, c .before .before .before .before .apart-by .ensures)))

@@ -1,6 +1,7 @@
 -- `scan::note` meets its contract.
 -- Assumes nothing.
 use borrow.Author.Needs.{needs}
+use mathlib.Core.Path.{sym}
 use lib.Seq.{set-out}
 use Rattle.scan.proofs.passing.note.Statement.{statement}
 use Rattle.scan.proofs.passing.note.Tie as tie
@@ -12,6 +13,5 @@ note-spec =
     (λ c. search needs)
     (λ c. search needs)
     (λ c. search needs)
-    (λ c. rw (c .before .if1 .taken))
-    (λ c. rw (c .before .if1 .taken, set-out (c .before .before .args .pairs .now) (c .before .before .args .at) (c .before .before .args .pair) (c .if2 .left)))
-    (λ c. search needs))
+    (λ c. search needs)
+    (λ c. sym (set-out (c .before .args .pairs .now) (c .before .args .at) (c .before .args .pair) (c .if1 .left))))

@@ -1,6 +1,6 @@
 -- `scan::start` meets its contract.
 -- Assumes nothing.
-use borrow.Author.Needs.{needs}
+use borrow.Author.Tests.{eq-eqb, ne-eqb}
 use Rattle.scan.specs.Passing.{startOf}
 use Rattle.scan.proofs.passing.start.Statement.{statement}
 use Rattle.scan.proofs.passing.start.Tie as tie
@@ -10,6 +10,5 @@ unfolding startOf
 start-spec =
     tie.close
     (tie.spec
-    (λ c κs. search needs)
-    (λ c κs. search needs)
-    (λ c. rw (c .still-sound .ensures, c .before .places-of .ensures)))
+    (λ c. rw (eq-eqb (c .before .args .records) 64 (c .if1 .taken)))
+    (λ c. rw (ne-eqb (c .before .args .records) 64 (c .if1 .left))))

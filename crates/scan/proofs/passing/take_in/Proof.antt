@@ -1,17 +1,45 @@
 -- `scan::take_in` meets its contract.
 -- Assumes nothing.
+use Prim.Native.Nat.{_%_}
 use borrow.Author.Needs.{needs}
+use borrow.Author.Tests.{eq-eqb, ne-eqb}
 use Rattle.scan.specs.Passing.{takenIn, noted}
 use Rattle.scan.proofs.passing.take_in.Statement.{statement}
 use Rattle.scan.proofs.passing.take_in.Tie as tie
 
-pub take-in-spec : {M : Type 1} → statement M
+returns : tie.Need-returns
 unfolding takenIn noted
+returns c =
+    let on = eq-eqb (c .before .before .before .before .before .before .before .before .before .before .before .args .s .rest % 2) 1 (c .before .before .before .before .before .before .before .before .if1 .taken) in (
+      rw (c .passed-by .ensures, on, ← c .before .before .before .before .before .before .before .session-sound .ensures, c .before .before .before .before .before .before .if2 .taken),
+      rw (c .before .before .before .note .ensures, c .before .before .before .before .before .key-pair .ensures, on, ← c .before .before .before .before .before .before .before .session-sound .ensures, c .before .before .before .before .before .before .if2 .taken),
+    )
+
+returns-2 : tie.Need-returns-2
+unfolding takenIn noted
+returns-2 c =
+    let on = eq-eqb (c .before .before .before .before .before .before .args .s .rest % 2) 1 (c .before .before .before .if1 .taken) in (
+      rw (c .failed-at .ensures, on, ← c .before .before .session-sound .ensures, c .before .if2 .left),
+      rw (on, ← c .before .before .session-sound .ensures, c .before .if2 .left),
+    )
+
+returns-3 : tie.Need-returns-3
+unfolding takenIn noted
+returns-3 c =
+    let off = ne-eqb (c .before .before .before .before .args .s .rest % 2) 1 (c .before .if1 .left) in
+    (rw (c .passed-by2 .ensures, off), rw off)
+
+pub take-in-spec : {M : Type 1} → statement M
 take-in-spec =
     tie.close
     (tie.spec
     (λ c κs. search needs)
     (λ c κs. search needs)
     (λ c κs. search needs)
+    (λ c κs. search needs)
     (λ c. search needs)
-    (λ c. (rw (c .before .before .before .before .progress-by .ensures), rw (c .before .before .note .ensures, c .before .before .before .before .before .key-pair .ensures))))
+    returns
+    (λ c κs. search needs)
+    returns-2
+    (λ c κs. search needs)
+    returns-3)
