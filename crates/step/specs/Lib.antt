@@ -1,2 +1,5 @@
+pub mod AtPlace
 pub mod Requests
 pub mod Stepping
+pub mod Saying
+pub mod Arriving

@@ -1,31 +1,34 @@
--- The decision and the step, from the scan's summary, the head, the request and the one record that it concerns. This is what the code is proved to do;
--- `proofs/TableStep.antt` says that it is the table's step.
+-- The decision and the step, from what is known of the row (in order or not, the place of the label, a rival), the head, the call and the one record that it concerns. This is
+-- what the code is proved to do; `proofs/TableStep.antt` says that it is the table's step.
 -- Assumes nothing.
 use Prim.Native.Nat.{ℕ}
 use mathlib.Core.Bool.{Bool, cond}
 use mathlib.Core.List.{List}
 use lib.Dec.{eqb, ltb}
-use lib.ListN.{length, getD, set}
+use lib.ListN.{length, getD, set, replicate}
 use Rattle.octets.specs.Choice.{need, bar}
-use Rattle.message.specs.declared.MessageAnswer.{MessageAnswer}
-use Rattle.message.specs.declared.MessageAnswer.the-variants.{Read, Refused}
-use Rattle.rules.specs.declared.Settings.{Settings}
+use Rattle.rules.specs.Calls.{noReport}
 use Rattle.rules.specs.Times.{late}
 use Rattle.rules.specs.Settings.{settingsFit}
-use Rattle.rules.specs.Received.{receivedAs}
 use Rattle.session.specs.declared.Session.{Session}
+use Rattle.session.specs.Queries.{reportAt, ccOctetsAt, cvOctetsAt}
 use Rattle.session.specs.Steps.{newSession, lockedBy, unlockedAt, replySettled}
-use Rattle.session.specs.Reception.{receivedAnswer, receivedBy}
 use Rattle.table.specs.declared.Head.{Head}
 use Rattle.table.specs.Places.{lowestFree, occupiedOf, withPlace, withoutPlace}
 use Rattle.table.specs.Table.{Table, absent}
+use Rattle.scan.specs.declared.Target.{Target}
 use Rattle.scan.specs.declared.Summary.{Summary}
-use Rattle.scan.specs.Passing.{summaryOf}
 use Rattle.step.specs.declared.Request.{Request}
-use Rattle.step.specs.declared.Request.the-variants.{Tick, Open, Close, Lock, Unlock, Receive, ReportOn, WriteCc, WriteCv}
+use Rattle.step.specs.declared.Request.the-variants.{Tick, Close, Lock, Unlock, ReportOn, WriteCc, WriteCv}
+use Rattle.step.specs.declared.Opening.{Opening}
+use Rattle.step.specs.declared.Told.{Told}
 use Rattle.step.specs.declared.Outcome.{Outcome}
 use Rattle.step.specs.declared.Stepped.{Stepped}
-use Rattle.step.specs.Requests.{targetOf}
+use Rattle.step.specs.AtPlace.{Afterwards}
+
+-- a lent row with its head, as the table
+abbrev pub tableOf : List Session → Head → Table
+tableOf row head = record { row = row; clock = head .clock; occupied = head .occupied }
 
 -- a record was found
 abbrev pub isPlace : ℕ → Bool
@@ -35,36 +38,22 @@ isPlace place = ltb place 64
 abbrev pub onAnswer : ℕ → ℕ → ℕ → ℕ
 onAnswer clock place reading = bar (late clock reading) 1 (need (isPlace place) 2 0)
 
-abbrev pub readAnswer : Session → ℕ → MessageAnswer → ℕ
-readAnswer r reading (Read m) = receivedAnswer r reading (receivedAs (r .settings) m)
-readAnswer r reading (Refused n) = n
-
 -- 2, then 13
 abbrev pub roomAnswer : ℕ → ℕ → ℕ → ℕ
 roomAnswer place size room = need (isPlace place) 2 (bar (ltb room size) 13 0)
 
--- 1, 10, 11, 12
-abbrev pub openingAnswer : Head → Bool → Settings → ℕ → ℕ
-openingAnswer head rival g reading =
-    bar (late (head .clock) reading) 1
-    (need (settingsFit g) 10
-    (bar rival 11
-    (bar (eqb (occupiedOf 64 (head .occupied)) 64) 12 0)))
-
-abbrev pub soundAnswer : Summary → Head → Request → Session → ℕ
-soundAnswer s head (Tick u) r = bar (late (head .clock) u) 1 0
-soundAnswer s head (Open g u) r = openingAnswer head (s .rival) g u
-soundAnswer s head (Close l u) r = onAnswer (head .clock) (s .place) u
-soundAnswer s head (Lock l u) r = onAnswer (head .clock) (s .place) u
-soundAnswer s head (Unlock l u) r = onAnswer (head .clock) (s .place) u
-soundAnswer s head (Receive l m u) r = bar (late (head .clock) u) 1 (need (isPlace (s .place)) 2 (readAnswer r u m))
-soundAnswer s head (ReportOn l) r = need (isPlace (s .place)) 2 0
-soundAnswer s head (WriteCc l n) r = roomAnswer (s .place) 28 n
-soundAnswer s head (WriteCv l n) r = roomAnswer (s .place) 44 n
+abbrev pub soundAnswer : ℕ → ℕ → Request → ℕ
+soundAnswer clock place (Tick u) = bar (late clock u) 1 0
+soundAnswer clock place (Close l u) = onAnswer clock place u
+soundAnswer clock place (Lock l u) = onAnswer clock place u
+soundAnswer clock place (Unlock l u) = onAnswer clock place u
+soundAnswer clock place (ReportOn l) = need (isPlace place) 2 0
+soundAnswer clock place (WriteCc l n) = roomAnswer place 28 n
+soundAnswer clock place (WriteCv l n) = roomAnswer place 44 n
 
 -- 26 before all
-unfoldable pub answerOf : Summary → Head → Request → Session → ℕ
-answerOf s head q r = need (s .sound) 26 (soundAnswer s head q r)
+unfoldable pub answerOf : Summary → Head → Request → ℕ
+answerOf s head q = need (s .sound) 26 (soundAnswer (head .clock) (s .place) q)
 
 -- a place as the set numbers it; 64 is none
 abbrev pub setPlace : ℕ → ℕ
@@ -76,11 +65,9 @@ at head reading = record { clock = reading; occupied = head .occupied }
 -- clock and set after an accepted request
 unfoldable pub headAfter : Summary → Head → Request → Head
 headAfter s head (Tick u) = at head u
-headAfter s head (Open g u) = record { clock = u; occupied = withPlace (head .occupied) (lowestFree 64 (head .occupied)) }
 headAfter s head (Close l u) = record { clock = u; occupied = withoutPlace (head .occupied) (setPlace (s .place)) }
 headAfter s head (Lock l u) = at head u
 headAfter s head (Unlock l u) = at head u
-headAfter s head (Receive l m u) = at head u
 headAfter s head (ReportOn l) = head
 headAfter s head (WriteCc l n) = head
 headAfter s head (WriteCv l n) = head
@@ -90,53 +77,83 @@ abbrev pub nowhere : ℕ
 nowhere = 18446744073709551615
 
 -- the place that an accepted request stores to
-unfoldable pub storedAt : Summary → Head → Request → ℕ
-storedAt s head (Tick u) = nowhere
-storedAt s head (Open g u) = lowestFree 64 (head .occupied)
-storedAt s head (Close l u) = nowhere
-storedAt s head (Lock l u) = s .place
-storedAt s head (Unlock l u) = s .place
-storedAt s head (Receive l m u) = s .place
-storedAt s head (ReportOn l) = nowhere
-storedAt s head (WriteCc l n) = s .place
-storedAt s head (WriteCv l n) = nowhere
-
-abbrev pub readEffect : Session → ℕ → MessageAnswer → Session
-readEffect r reading (Read m) = receivedBy r reading (receivedAs (r .settings) m)
-readEffect r reading (Refused n) = r
+unfoldable pub storedAt : ℕ → Request → ℕ
+storedAt place (Tick u) = nowhere
+storedAt place (Close l u) = nowhere
+storedAt place (Lock l u) = place
+storedAt place (Unlock l u) = place
+storedAt place (ReportOn l) = nowhere
+storedAt place (WriteCc l n) = place
+storedAt place (WriteCv l n) = nowhere
 
 -- what an accepted request makes of the record
 unfoldable pub effectOn : Request → Session → Session
 effectOn (Tick u) r = r
-effectOn (Open g u) r = newSession g u
 effectOn (Close l u) r = r
 effectOn (Lock l u) r = lockedBy r
 effectOn (Unlock l u) r = unlockedAt r u
-effectOn (Receive l m u) r = readEffect r u m
 effectOn (ReportOn l) r = r
 effectOn (WriteCc l n) r = replySettled r
 effectOn (WriteCv l n) r = r
 
--- the outcome: the answer, clock and set, and the record as it was; and the record to store. A refusal stores nothing.
+-- what is told, of the record as it was: noughts where a call tells nothing
+abbrev pub nothingTold : Told
+nothingTold = record { report = noReport; cc = replicate 28 0; cv = replicate 44 0 }
+
+unfoldable pub toldBy : Request → Session → ℕ → Told
+toldBy (Tick u) r clock = nothingTold
+toldBy (Close l u) r clock = nothingTold
+toldBy (Lock l u) r clock = nothingTold
+toldBy (Unlock l u) r clock = nothingTold
+toldBy (ReportOn l) r clock = record { report = reportAt r clock; cc = replicate 28 0; cv = replicate 44 0 }
+toldBy (WriteCc l n) r clock = record { report = noReport; cc = ccOctetsAt r clock; cv = replicate 44 0 }
+toldBy (WriteCv l n) r clock = record { report = noReport; cc = replicate 28 0; cv = cvOctetsAt r clock }
+
+-- the outcome, and where the record goes. A refusal stores nothing
 unfoldable pub stepOf : Summary → Head → Request → Session → Stepped
 stepOf s head q r =
-    let n = answerOf s head q r in
+    let n = answerOf s head q in
     record {
-      outcome = record { before = r; head = cond (eqb n 0) (headAfter s head q) head; answer = n };
-      after = effectOn q r;
-      place = cond (eqb n 0) (storedAt s head q) nowhere;
+      outcome = record { head = cond (eqb n 0) (headAfter s head q) head; told = toldBy q r (head .clock); answer = n };
+      place = cond (eqb n 0) (storedAt (s .place) q) nowhere;
     }
 
--- a lent row with its head, as the table
-abbrev pub tableOf : List Session → Head → Table
-tableOf row head = record { row = row; clock = head .clock; occupied = head .occupied }
+-- an opening looks for a rival
+abbrev pub openingTarget : Opening → Target
+openingTarget g = record { label = g .settings .label; discriminator = g .settings .discriminator }
 
--- the request on a row: the scan, the record of the label, the step
-unfoldable pub rowStep : List Session → Head → Request → Stepped
-rowStep row head q =
-    let s = summaryOf row head (targetOf q) in
-    stepOf s head q (getD row (s .place) absent)
+-- 26, 1, 10, 11, 12
+unfoldable pub openingAnswer : Summary → Head → Opening → ℕ
+openingAnswer s head g =
+    need (s .sound) 26
+    (bar (late (head .clock) (g .reading)) 1
+    (need (settingsFit (g .settings)) 10
+    (bar (s .rival) 11
+    (bar (eqb (occupiedOf 64 (head .occupied)) 64) 12 0))))
 
--- the row afterwards
-unfoldable pub rowAfter : List Session → Head → Request → List Session
-rowAfter row head q = set row (rowStep row head q .place) (rowStep row head q .after)
+abbrev pub openedHead : Head → ℕ → Head
+openedHead head reading = record { clock = reading; occupied = withPlace (head .occupied) (lowestFree 64 (head .occupied)) }
+
+-- a new session goes into the lowest free place
+unfoldable pub openingOf : Summary → Head → Opening → Stepped
+openingOf s head g =
+    let n = openingAnswer s head g in
+    record {
+      outcome = record { head = cond (eqb n 0) (openedHead head (g .reading)) head; told = nothingTold; answer = n };
+      place = cond (eqb n 0) (lowestFree 64 (head .occupied)) nowhere;
+    }
+
+-- what comes of a call on a row, and the row afterwards
+abbrev pub Obeyed : Type 0
+Obeyed = Afterwards Outcome Session
+
+unfoldable pub obeyAt : List Session → Head → Summary → Request → Obeyed
+obeyAt row head s q =
+    let r = getD row (s .place) absent in
+    let d = stepOf s head q r in
+    record { outcome = d .outcome; row = set row (d .place) (effectOn q r) }
+
+unfoldable pub openAt : List Session → Head → Summary → Opening → Obeyed
+openAt row head s g =
+    let d = openingOf s head g in
+    record { outcome = d .outcome; row = set row (d .place) (newSession (g .settings) (g .reading)) }
