@@ -1,7 +1,7 @@
 -- The two tests that a walk meets, `if c { .. return .. }` and `while c`, and what is known of a test's outcome in either branch.
 -- Assumes `Given`, but for the outcomes, which assume nothing.
 use mathlib.Core.Path.{_≡_, refl}
-use mathlib.Core.Bool.{Bool, true, false, not}
+use mathlib.Core.Bool.{Bool, true, false, not, _&&_}
 use mathlib.Core.List.{List}
 use Prim.Native.Nat.{ℕ}
 use lib.Dec.{T as Holds}
@@ -21,6 +21,16 @@ held-is false held = absurd held
 pub failed-is : (c : Bool) → Holds (not c) → c ≡ false
 failed-is true failed = absurd failed
 failed-is false failed = refl
+
+-- two tests that both held, and one of two that failed
+pub both-held : (t u : Bool) → Holds (t && u) → Holds t × Holds u
+both-held true u h = (tt, h)
+both-held false u h = absurd h
+
+pub either-failed : {C : Type 0} (e l : Bool) → Holds (not (not e && l)) → (Holds e → C) → (Holds (not l) → C) → C
+either-failed true l h j k = j tt
+either-failed false true h j k = absurd h
+either-failed false false h j k = k tt
 
 module _ {M : Type 1} {𝓤 : URA M} {H : Heap 𝓤} {A : Atoms 𝓤} {K : Type 0} {W : Given 𝓤 H A} {Γ : List (Item 𝓤)} {E : Env 𝓤 H} {C : Calls 𝓤 H} {Λ : Loops 𝓤 H} {q : Post 𝓤 H} {c : Opd} {outcome : Bool} where
   -- `if c { early } rest`, where early returns: its walk ends in the first branch

@@ -1,7 +1,16 @@
 pub mod Plains
+pub mod StepParts
 pub mod LentSlice
 pub mod LentOn
 pub mod OneElement
+pub mod PutAt
+pub mod ReadAt
+pub mod AtPlace
+pub mod EitherCall
+pub mod ScanOver
+pub mod ObeyAt
+pub mod FindOver
+pub mod HintFirst
 pub mod RecordOfRow
 pub mod Callee
 pub mod Branches

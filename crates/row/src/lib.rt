@@ -1,16 +1,21 @@
-// The lent row: its records taken out and stored, and the scan over it.
+// The lent row: its records taken out and stored, the scan over it, the search in it, and the calls.
+mod finding;
+mod known;
+
+pub use finding::find;
+pub use finding::place_known;
+pub use known::obey_at;
+pub use known::open_at;
+pub use known::receive_at;
 use scan::Progress;
 use scan::Summary;
 use scan::Target;
 use session::Session;
-use step::Outcome;
-use step::Request;
 use table::Head;
 ghost use mathlib.Core.Path.{_≡_};
 ghost use lib.ListN.{getD, set};
 ghost use Rattle.table.specs.Table as Table;
 ghost use Rattle.scan.specs.Passing.{passOver, summaryOf};
-ghost use Rattle.step.specs.Stepping.{rowStep, rowAfter};
 
 // The record at a place; past the row's end there is none.
 pub fn record_at(row: &[Session], place: usize) -> Session
@@ -32,7 +37,8 @@ pub fn put_record(row: &mut [Session], place: usize, r: Session)
     row[place] = r;
 }
 
-// The pass over the occupied places, with the key pairs noted in a lent run of numbers.
+// The pass over the occupied places: each record by itself, its key pair noted at its place in a lent
+// run of numbers.
 fn pass_over(row: &[Session], pairs: &mut [u64], from: Progress) -> Progress
     ensures { λ s. ⌜ record { progress = s; pairs = now (pairs .exit) } ≡ passOver 0 (record { progress = from; pairs = now (pairs .entry) }) (now (row .entry)) ⌝ }
 {
@@ -46,23 +52,11 @@ fn pass_over(row: &[Session], pairs: &mut [u64], from: Progress) -> Progress
     s
 }
 
-// The scan: one pass over the occupied places of the row.
+// The scan: one pass over the occupied places of the row, and what the keys noted there say.
 pub fn scan_row(row: &[Session], head: Head, target: Target) -> Summary
     ensures { λ s. ⌜ s ≡ summaryOf (now (row .entry)) head target ⌝ }
 {
     let mut pairs = [0u64; 64];
     let s = pass_over(row, &mut pairs, scan::start(row.len(), head, target));
     scan::judged(&pairs, s)
-}
-
-// The call on the row: one scan, the record of the label, the step, the record stored. A refusal
-// stores nothing.
-pub fn obey(row: &mut [Session], head: Head, q: Request) -> Outcome
-    ensures { λ o. ⌜ (o ≡ rowStep (now (row .entry)) head q .outcome) × (now (row .exit) ≡ rowAfter (now (row .entry)) head q) ⌝ }
-{
-    let s = scan_row(&*row, head, step::target(q));
-    let r = record_at(&*row, s.place);
-    let done = step::step(s, head, q, r);
-    put_record(&mut *row, done.place, done.after);
-    done.outcome
 }

@@ -118,11 +118,11 @@ module _ {M : Type 1} (𝓤 : URA M) (H : Heap 𝓤) (A : Atoms 𝓤) (W : Given
   Post = walkOf 𝓤 H A f.ended stayed (f.clauses 𝓤 H A mem run) .post (((κ, tt), (q, tt), tt, a, at), tt)
 
   -- the machine value that `[0; 64]` has, and that it is of its type
-  noughts-is : Is (Array u64 64) noughts (words-val noughts ∷ [])
-  noughts-is = repeat-is 64 0 (lit< tt)
+  noughts-is : Is (Array u64 64) noughts (words-val w64 noughts ∷ [])
+  noughts-is = repeat-is w64 64 0 (lit< tt)
 
   made-typed : Holds (hasTy (tyArray (tyInt w64) 64) (arrayVal (replicate 64 (vint w64 0)))) × WT (arrayVal (replicate 64 (vint w64 0)))
-  made-typed = subst (λ (us : List Val). Holds (hasTy (tyArray (tyInt w64) 64) (arrayVal us)) × WT (arrayVal us)) (sym (repeat-val 64 0)) (words-typed 𝓤 H A W 64 noughts noughts-is)
+  made-typed = subst (λ (us : List Val). Holds (hasTy (tyArray (tyInt w64) 64) (arrayVal us)) × WT (arrayVal us)) (sym (repeat-val w64 64 0)) (words-typed w64 𝓤 H A W 64 noughts noughts-is)
 
   -- what each callee is passed
   abbrev to-st : StartC 𝓤 H A mem run .Ghost
@@ -165,7 +165,7 @@ module _ {M : Type 1} (𝓤 : URA M) (H : Heap 𝓤) (A : Atoms 𝓤) (W : Given
         move ! (25 ∷ []) $ fsplit ! $ move ! (1 ∷ []) $ drop ! $ use1 W (‵ (Shared RowRecord κ γ b o (length ys) ys) ⊛ ‵ (Shared RowRecord κ γ b o (length ys) ys)) (shr-slice-copy 𝓤 H A W (named 0) κ RowRecord .twice (slice RowRecord γ b o ys) (s ∷ [])) $ split ! $ move ! (26 ∷ []) $ split ! $
         -- [the token; true; the row; the row; _11; …; _1; …; room for _0; …]
         assigns ! (rep ! 64 (lit ! tt)) (from ! (stop !)) (init ! 18 refl made-typed) $
-        rewrite ! 18 (λ (us : List Val). ‵ (fat fullShare (tyArray (tyInt w64) 64) l₄ 0 (arrayVal us))) (repeat-val 64 0) refl $
+        rewrite ! 18 (λ (us : List Val). ‵ (fat fullShare (tyArray (tyInt w64) 64) l₄ 0 (arrayVal us))) (repeat-val w64 64 0) refl $
         assigns ! (addr ! (from ! (stop !))) (from ! (stop !)) (init ! 14 refl (tt, tt)) $
         assigns ! (agg ! (and-then ! (load ! (from ! (stop !)) (look ! 14 refl)) (and-then ! (lit ! tt) (no-more !)))) (from ! (stop !)) (init ! 12 refl (tt, (tt, (record { fits = lit< tt }, tt)))) $
         assigns ! (of-opd ! (load ! (from ! (fld ! refl (stop !))) (look-in ! 24 (sub ! 1 refl (whole !))))) (from ! (stop !)) (init ! 8 refl (tt, record { fits = room .0 })) $
@@ -173,7 +173,7 @@ module _ {M : Type 1} (𝓤 : URA M) (H : Heap 𝓤) (A : Atoms 𝓤) (W : Given
         callee-answers ! fm st.ended (st.clauses 𝓤 H A mem run) known-st to-st (and-then ! (load ! (from ! (stop !)) (look ! 9 refl)) (and-then ! (load ! (from ! (stop !)) (look ! 23 refl)) (and-then ! (load ! (from ! (stop !)) (look ! 21 refl)) (no-more !)))) (λ c _. c ≡ startOf (length ys) h t) (λ _ _. id⊢ 𝓤 _) (λ w₀ c₀ _ e₀ was₀. drop ! $ drop ! $
         land ! (from ! (stop !)) (init ! 10 refl (progressP .typed 𝓤 H A W c₀ _ was₀)) $ rewrite ! 10 (λ (u : Val). ‵ (fat fullShare Progress″.mir l₈ 0 u)) (ap only (Progress″.lowers .val-is c₀ _ was₀)) refl $
         -- the array is lent for a lifetime ν to `pass_over`
-        lft-new ! tt (λ ν. move ! (19 ∷ []) $ lent-out ! tt (ν ∷ []) 64 l₄ noughts noughts-is (room-of noughts sixty-four) (λ δ.
+        lft-new ! tt (λ ν. move ! (19 ∷ []) $ lent-out w64 ! tt (ν ∷ []) 64 l₄ noughts noughts-is (room-of noughts sixty-four) (λ δ.
         rewrite ! 0 (λ (m : ℕ). ‵ (Mutable u64 (ν ∷ []) δ l₄ 0 m noughts)) sixty-four refl $ rewrite ! 1 (λ (m : ℕ). ‵ (flent (ν ∷ []) (Held u64 m l₄ 0 δ))) sixty-four refl $
         -- [the pairs; the lender's part; ν's token; the token; true; the row; the row; _11; …; that _4 dies; …]
         move ! (2 ∷ 4 ∷ []) $ join ! $ move ! (3 ∷ 0 ∷ []) $ join ! $ move ! (0 ∷ 3 ∷ 1 ∷ []) $ use3 W (raw (PassC 𝓤 H A mem run .pre (to-po ν l₄ δ c₀))) (goes-po ν l₄ δ c₀ (at-v progressP c₀ _ was₀)) $
@@ -181,18 +181,18 @@ module _ {M : Type 1} (𝓤 : URA M) (H : Heap 𝓤) (A : Atoms 𝓤) (W : Given
         callee-answers ! fm po.ended (po.clauses 𝓤 H A mem run) known-po (to-po ν l₄ δ c₀) (and-then ! (load ! (from ! (stop !)) (look ! 22 refl)) (and-then ! (load ! (from ! (stop !)) (look ! 11 refl)) (and-then ! (load ! (from ! (stop !)) (look ! 9 refl)) (no-more !))))
         (λ c zs. at-pass c (zs .1 .0) ≡ passOver 0 (at-pass c₀ noughts) ys) (λ _ _. id⊢ 𝓤 _) (λ w₁ c zs e₁ was₁. use1 W (‵ (flft κ q) ⊛ ‵ (flft (ν ∷ []) fullShare) ⊛ ‵ ftrue) (id⊢ 𝓤 _) $ split ! $ move ! (1 ∷ []) $ split ! $ lft-end ! tt $
         -- [ν is over; true; the token; the last lists; the lender's part; the row; _11; …]
-        move ! (3 ∷ []) $ fsplit ! $ drop ! $ fsplit ! $ fsplit ! $ move ! (1 ∷ []) $ feqL ! (λ len. move ! (2 ∷ 5 ∷ 0 ∷ []) $ got-back ! tt (ν ∷ []) 64 l₄ δ (zs .1 .0) (λ ps-is. move ! (1 ∷ []) $ drop ! $
+        move ! (3 ∷ []) $ fsplit ! $ drop ! $ fsplit ! $ fsplit ! $ move ! (1 ∷ []) $ feqL ! (λ len. move ! (2 ∷ 5 ∷ 0 ∷ []) $ got-back w64 ! tt (ν ∷ []) 64 l₄ δ (zs .1 .0) (λ ps-is. move ! (1 ∷ []) $ drop ! $
         -- [_4; true; the token; the row; _11; …; that _4 dies; …]
         land ! (from ! (stop !)) (init ! 16 refl (progressP .typed 𝓤 H A W c _ was₁)) $ rewrite ! 16 (λ (u : Val). ‵ (fat fullShare Progress″.mir l₅ 0 u)) (ap only (Progress″.lowers .val-is c _ was₁)) refl $
         assigns ! (addr ! (from ! (stop !))) (from ! (stop !)) (init ! 6 refl (tt, tt)) $
         assigns ! (agg ! (and-then ! (load ! (from ! (stop !)) (look ! 6 refl)) (and-then ! (lit ! tt) (no-more !)))) (from ! (stop !)) (init ! 4 refl (tt, (tt, (record { fits = lit< tt }, tt)))) $
         -- and for a lifetime μ to `judged`
-        lft-new ! tt (λ μ. move ! (1 ∷ []) $ lent-shared-out ! tt (μ ∷ []) 64 l₄ (zs .1 .0) ps-is (room-of (zs .1 .0) (ps-is .1 .0 .1)) (λ ε.
+        lft-new ! tt (λ μ. move ! (1 ∷ []) $ lent-shared-out w64 ! tt (μ ∷ []) 64 l₄ (zs .1 .0) ps-is (room-of (zs .1 .0) (ps-is .1 .0 .1)) (λ ε.
         rewrite ! 0 (λ (m : ℕ). ‵ (Shared u64 (μ ∷ []) ε l₄ 0 m (zs .1 .0))) (ps-is .1 .0 .1) refl $
         move ! (2 ∷ 0 ∷ []) $ use2 W (raw (JudgedC 𝓤 H A mem run .pre (to-ju μ l₄ ε (zs .1 .0) c))) (goes-ju μ l₄ ε (zs .1 .0) c (at-v progressP c _ was₁)) $
         -- [what `judged` asks; the lender's part; true; the token; the row; _11; …; that _4 dies; …]
         callee-answers ! fm ju.ended (ju.clauses 𝓤 H A mem run) known-ju (to-ju μ l₄ ε (zs .1 .0) c) (and-then ! (load ! (from ! (stop !)) (look ! 5 refl)) (and-then ! (load ! (from ! (stop !)) (look ! 17 refl)) (no-more !)))
-        (λ n _. n ≡ judgedOf (zs .1 .0) c) (λ _ _. id⊢ 𝓤 _) (λ w n _ e₂ was. token-back ! (μ ∷ []) fullShare $ lft-end ! tt $ move ! (1 ∷ []) $ drop ! $ got-shared-back ! tt (μ ∷ []) 64 l₄ (zs .1 .0) (ps-is .1 .0 .1) $
+        (λ n _. n ≡ judgedOf (zs .1 .0) c) (λ _ _. id⊢ 𝓤 _) (λ w n _ e₂ was. token-back ! (μ ∷ []) fullShare $ lft-end ! tt $ move ! (1 ∷ []) $ drop ! $ got-shared-back w64 ! tt (μ ∷ []) 64 l₄ (zs .1 .0) (ps-is .1 .0 .1) $
         move ! (1 ∷ 2 ∷ 3 ∷ 4 ∷ 5 ∷ 6 ∷ 7 ∷ 8 ∷ 9 ∷ 10 ∷ 11 ∷ 12 ∷ 13 ∷ 14 ∷ 15 ∷ 16 ∷ 17 ∷ 0 ∷ []) $
         -- [true; the token; the row; _11; …; _1; …; room for _0; …]
         land ! (from ! (stop !)) (init ! 25 refl (summaryP .typed 𝓤 H A W n _ was)) $ returns ! {r = w} (look ! 25 refl) $
