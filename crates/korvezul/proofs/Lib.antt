@@ -2,6 +2,9 @@ pub mod OneStep
 pub mod Promised
 pub mod Fold
 pub mod LentValue
+pub mod LentCall
+pub mod LentRow
+pub mod LentReceive
 pub mod CallPlains
 pub mod ThinEnd
 pub mod ThinCall

@@ -3,7 +3,7 @@
 --     maker φ          g's clauses.        putter octets        h's clauses.        thin act     the function's clauses
 --     meets            the MIR meets `thin act`, where the table's entry k meets `maker φ`, k′ meets `putter octets`, and that of `obey_lent` its contract
 -- Assumes nothing.
-use mathlib.Core.Path.{_≡_, refl, sym, ap, _∙_}
+use mathlib.Core.Path.{_≡_, refl, ap, _∙_}
 use Prim.Native.Nat.{ℕ, _<_, _^_}
 use mathlib.Core.List.{List, [], _∷_}
 use lib.Dec.{T as Holds}
@@ -13,11 +13,9 @@ use mir.Syntax.{Name, Fn, Ty, named, erased, mut, w8, w32, w64, tyInt, tyRef, de
 use mir.Val.{Val, WT, hasTy, vint, vptr}
 use base.Logic.{SProp, ent, emp, id⊢}
 use base.Fml.{Lft, GName, Share, ftrue, fres, flft}
-use prog.Memory.{Memory}
-use prog.Routine.{Routine}
 use prog.Wp.{Heap, WpFn, Tables}
 use ghost.Atoms.{Atoms}
-use contract.Monad.{fact, Fun}
+use contract.Monad.{fact}
 use types.Kit.{Given, ‵, raw, _⊛_, ⋆, _$_, _∵_, !, qed, by, move, keep, drop, use0, use1, use2, use3, split, join, fsplit, fjoin, feqL, suffices, frame, done}
 use types.Part.{agg, whole, sub, look-in}
 use types.Run.{look, init, stop, hop, fld, from, load, addr, of-opd, and-then, no-more, assigns, land, returns, enter, alloc1, alloc0, params1, pass1, pass0, free0}
@@ -43,19 +41,18 @@ use Rattle.session.specs.declared.Session.{Session}
 use Rattle.table.specs.declared.Head.{Head}
 use Rattle.step.specs.declared.Request.{Request}
 use Rattle.step.specs.declared.Outcome.{Outcome}
-use Rattle.step.specs.Requests.{requestOf}
-use Rattle.step.specs.Stepping.{tableOf, rowStep, rowAfter}
-use Rattle.step.proofs.TableStep.{saidOf}
+use Rattle.step.specs.Saying.{saidOf, Steps}
+use Rattle.step.specs.Stepping.{tableOf}
 use Rattle.row.proofs.LentSlice.{slice, Mutable}
 use Rattle.row.proofs.RecordOfRow.{RowRecord}
 use Rattle.row.proofs.Callee.{callee-answers, token-back}
 use Rattle.row.proofs.Locals.{frees-stored}
 use Rattle.row.proofs.ByWalk.{meets-by-walk}
 use Rattle.row.proofs.Plains.{headP, requestP, outcomeP, u32P}
-use Rattle.korvezul.specs.Calling.{Called, called}
+use Rattle.korvezul.specs.Calling.{Called, called, obeyLent}
 use Rattle.korvezul.proofs.OneStep.{one-step}
 use Rattle.korvezul.proofs.LentValue.{reference, Lent}
-use Rattle.korvezul.proofs.obey_lent as ob
+use Rattle.korvezul.proofs.ThinEnd.{on-ended, Left, on-row, OnRow}
 use Rattle.korvezul.proofs.obey_lent.Symbol.{name as #korvezul·obey-lent}
 
 abbrev pub function : Ty → Ty → Ty → Ty → Name → Name → Fn
@@ -109,35 +106,24 @@ thin act 𝓤 κs a = record {
   ensures = λ _ n e. fact 𝓤 (left n (now (e .0)) (now (e .1 .0)) (now (e .1 .1 .1 .0)) ≡ called (tableOf (now (a .0)) (now (a .1 .0))) (On (a .1 .1 .0) (act (now (a .1 .1 .1 .0)))));
 }
 
--- the contracts of the three callees
+-- the contracts of g and of h
 abbrev pub Maker : (ℕ → ℕ → Request) → {M : Type 1} (𝓤 : URA M) (H : Heap 𝓤) (A : Atoms 𝓤) → Contract 𝓤
 Maker φ 𝓤 H A = tripleOf 𝓤 H A (g-ended .signature) (closing 𝓤 H A g-ended (maker φ 𝓤))
 
 abbrev pub Putter : (Outcome → List ℕ) → {M : Type 1} (𝓤 : URA M) (H : Heap 𝓤) (A : Atoms 𝓤) → Contract 𝓤
 Putter octets 𝓤 H A = tripleOf 𝓤 H A (h-ended .signature) (closing 𝓤 H A h-ended (putter octets 𝓤))
 
-abbrev pub ObeyLent : {M : Type 1} (𝓤 : URA M) (H : Heap 𝓤) (A : Atoms 𝓤) (mem : Memory → SProp 𝓤) (run : Routine → Fun 𝓤) → Contract 𝓤
-ObeyLent 𝓤 H A mem run = tripleOf 𝓤 H A ob.signature (ob.spec 𝓤 H A mem run)
-
 -- what is asked and said of the act
-module _ (act : List ℕ → Act) (φ : ℕ → ℕ → Request) (octets : Outcome → List ℕ) (asked : (l : ℕ) (bs : List ℕ) → φ l (length bs) ≡ requestOf (On l (act bs)))
+module _ (act : List ℕ → Act) (φ : ℕ → ℕ → Request) (octets : Outcome → List ℕ) (steps : (row : List Session) (head : Head) → length row < 2 ^ 64 → (l : ℕ) (bs : List ℕ) → Steps row head (On l (act bs)) (obeyLent row head (φ l (length bs))))
     (told : (l : ℕ) (bs : List ℕ) (o : Outcome) → writes (writing (o .answer) (octets o) bs) ≡ saidOf (On l (act bs)) o) where
   -- ---- with no model: what the three calls come to
   module _ (ys : List Session) (h : Head) (l : ℕ) (bs : List ℕ) where
-    -- what `obey_lent` ensures of a request
-    abbrev Obeyed : Request → Outcome → List Session → Head → Type 0
-    Obeyed c r zs h′ = (r ≡ rowStep ys h c .outcome) × ((zs ≡ rowAfter ys h c) × (h′ ≡ rowStep ys h c .outcome .head))
-
-    said : length ys < 2 ^ 64 → (c : Request) → c ≡ φ l (length bs) → (r : Outcome) (zs : List Session) (h′ : Head) → Obeyed c r zs h′ → (n : ℕ) (ps : List ℕ) → wrote n ps ≡ writing (r .answer) (octets r) bs
+    said : length ys < 2 ^ 64 → (c : Request) → c ≡ φ l (length bs) → (r : Outcome) (zs : List Session) (h′ : Head) → Left requestP obeyLent ys h c r zs h′ → (n : ℕ) (ps : List ℕ) → wrote n ps ≡ writing (r .answer) (octets r) bs
         → left n zs h′ ps ≡ called (tableOf ys h) (On l (act bs))
-    said long c e r zs h′ e′ n ps e″ =
-        let is-asked : c ≡ requestOf (On l (act bs)) = e ∙ asked l bs in
-        ap {B = Called} (λ (u : Head). left n zs u ps) (e′ .1 .1 ∙ sym (ap (λ (u : Outcome). u .head) (e′ .0)))
-        ∙ one-step ys h long (On l (act bs)) r zs (e′ .0 ∙ ap (λ (u : Request). rowStep ys h u .outcome) is-asked) (e′ .1 .0 ∙ ap (rowAfter ys h) is-asked)
-        (writes (wrote n ps)) (ap writes e″ ∙ told l bs r)
+    said long c e r zs h′ e′ n ps e″ = one-step ys h (On l (act bs)) (obeyLent ys h (φ l (length bs))) (steps ys h long l bs) r zs h′ (e′ .0 ∙ ap (obeyLent ys h) e) (e′ .1) (writes (wrote n ps)) (ap writes e″ ∙ told l bs r)
 
-  module _ (k k′ : Name) {M : Type 1} (𝓤 : URA M) (H : Heap 𝓤) (A : Atoms 𝓤) (W : Given 𝓤 H A) (mem : Memory → SProp 𝓤) (run : Routine → Fun 𝓤) (𝓣 : Tables 𝓤 H)
-      (known : Triple 𝓤 (𝓣 .C k) (Maker φ 𝓤 H A)) (known-ob : Triple 𝓤 (𝓣 .C #korvezul·obey-lent) (ObeyLent 𝓤 H A mem run)) (known-pu : Triple 𝓤 (𝓣 .C k′) (Putter octets 𝓤 H A)) (τ₅ τ₆ σ σ′ : Ty)
+  module _ (k k′ : Name) {M : Type 1} (𝓤 : URA M) (H : Heap 𝓤) (A : Atoms 𝓤) (W : Given 𝓤 H A) (𝓣 : Tables 𝓤 H)
+      (known : Triple 𝓤 (𝓣 .C k) (Maker φ 𝓤 H A)) (known-ob : Triple 𝓤 (𝓣 .C #korvezul·obey-lent) (OnRow requestP obeyLent 𝓤 H A)) (known-pu : Triple 𝓤 (𝓣 .C k′) (Putter octets 𝓤 H A)) (τ₅ τ₆ σ σ′ : Ty)
       (ty₅ : (x : Request) (w : Val) → Is (requestP .T) x (w ∷ []) → Holds (hasTy τ₅ w) × WT w) (ty₆ : (x : Outcome) (w : Val) → Is (outcomeP .T) x (w ∷ []) → Holds (hasTy τ₆ w) × WT w) where
     module _ (κ κ′ κ₂ : Lft) (q q′ q₂ : Share) (b o : ℕ) (γ : GName) (ys : List Session) (b′ o′ : ℕ) (γ′ : GName) (h : Head) (l : ℕ) (b₂ o₂ : ℕ) (γ₂ : GName) (bs : List ℕ) where
       -- the arguments, and their machine values
@@ -160,7 +146,7 @@ module _ (act : List ℕ → Act) (φ : ℕ → ℕ → Request) (octets : Outco
       abbrev to-g : Maker φ 𝓤 H A .Ghost
       to-g = ((tt, tt, tt, (l, (length bs, tt)), (vint w32 l ∷ [], (vint w64 (length bs) ∷ [], tt))), tt)
 
-      abbrev to-ob : Request → Val → ObeyLent 𝓤 H A mem run .Ghost
+      abbrev to-ob : Request → Val → OnRow requestP obeyLent 𝓤 H A .Ghost
       to-ob c w = (((κ, (κ′, tt)), (q, (q′, tt)), tt, (slice RowRecord γ b o ys, (reference headP γ′ b′ o′ h, (c, tt))), (s ∷ [], (vptr b′ o′ ∷ [], (w ∷ [], tt)))), tt)
 
       abbrev to-h : Outcome → Val → Putter octets 𝓤 H A .Ghost
@@ -171,7 +157,7 @@ module _ (act : List ℕ → Act) (φ : ℕ → ℕ → Request) (octets : Outco
         goes : ent 𝓤 (emp 𝓤) (Maker φ 𝓤 H A .pre to-g)
         goes = qed W [] ∵ nothing ! $ owned ! usize (Is usize) (uint-makes 𝓤 H A W w64) (length bs) _ (refl, p-room .0) $ fjoin ! $ owned ! u32 (Is u32) (uint-makes 𝓤 H A W w32) l _ (refl, gl) $ fjoin ! $ nothing ! $ join ! $ frame ! $ done !
 
-        goes-ob : (c : Request) (w : Val) → Is (requestP .T) c (w ∷ []) → ent 𝓤 (⋆ 𝓤 H A ((‵ (flft κ q) ⊛ ‵ (flft κ′ q′) ⊛ ‵ ftrue) ∷ ‵ (Mutable RowRecord κ γ b o (length ys) ys) ∷ ‵ (Lent headP κ′ γ′ b′ o′ h) ∷ [])) (ObeyLent 𝓤 H A mem run .pre (to-ob c w))
+        goes-ob : (c : Request) (w : Val) → Is (requestP .T) c (w ∷ []) → ent 𝓤 (⋆ 𝓤 H A ((‵ (flft κ q) ⊛ ‵ (flft κ′ q′) ⊛ ‵ ftrue) ∷ ‵ (Mutable RowRecord κ γ b o (length ys) ys) ∷ ‵ (Lent headP κ′ γ′ b′ o′ h) ∷ [])) (OnRow requestP obeyLent 𝓤 H A .pre (to-ob c w))
         goes-ob c w c-is =
             qed W ((‵ (flft κ q) ⊛ ‵ (flft κ′ q′) ⊛ ‵ ftrue) ∷ ‵ (Mutable RowRecord κ γ b o (length ys) ys) ∷ ‵ (Lent headP κ′ γ′ b′ o′ h) ∷ []) ∵ nothing ! $ owned ! (requestP .T) (Is (requestP .T)) (requestP .makes 𝓤 H A W) c _ c-is $ fjoin ! $
             move ! (3 ∷ 0 ∷ []) $ fjoin ! $ move ! (2 ∷ 0 ∷ []) $ fjoin ! $ move ! (1 ∷ 0 ∷ []) $ join ! $ frame ! $ done !
@@ -208,9 +194,9 @@ module _ (act : List ℕ → Act) (φ : ℕ → ℕ → Request) (octets : Outco
             assigns ! (agg ! (and-then ! (load ! (from ! (stop !)) (look ! 14 refl)) (and-then ! (load ! (from ! (fld ! refl (stop !))) (look-in ! 28 (sub ! 1 refl (whole !)))) (no-more !)))) (from ! (stop !)) (init ! 12 refl (tt, (tt, (record { fits = room .0 }, tt)))) $
             assigns ! (addr ! (from ! (hop ! (look ! 26 refl) (stop !)))) (from ! (stop !)) (init ! 10 refl (tt, tt)) $
             -- row and head are passed on to `obey_lent`, at their own lifetimes, shares and names
-            use3 W (raw (ObeyLent 𝓤 H A mem run .pre (to-ob c w))) (goes-ob c w was) $
-            callee-answers ! (fmOf 𝓤 H (W .laws) 𝓣) ob.ended (ob.clauses 𝓤 H A mem run) known-ob (to-ob c w) (and-then ! (load ! (from ! (stop !)) (look ! 10 refl)) (and-then ! (load ! (from ! (stop !)) (look ! 8 refl)) (and-then ! (load ! (from ! (stop !)) (look ! 18 refl)) (no-more !))))
-            (λ r zs. (r ≡ rowStep ys h c .outcome) × ((zs .0 ≡ rowAfter ys h c) × (zs .1 .0 ≡ rowStep ys h c .outcome .head))) (λ _ _. id⊢ 𝓤 _) (λ w₁ r zs e₁ was₁. use1 W (‵ (flft κ q) ⊛ ‵ (flft κ′ q′) ⊛ ‵ ftrue) (id⊢ 𝓤 _) $ split ! $ move ! (1 ∷ []) $ split ! $
+            use3 W (raw (OnRow requestP obeyLent 𝓤 H A .pre (to-ob c w))) (goes-ob c w was) $
+            callee-answers ! (fmOf 𝓤 H (W .laws) 𝓣) (on-ended requestP) (on-row requestP obeyLent 𝓤) known-ob (to-ob c w) (and-then ! (load ! (from ! (stop !)) (look ! 10 refl)) (and-then ! (load ! (from ! (stop !)) (look ! 8 refl)) (and-then ! (load ! (from ! (stop !)) (look ! 18 refl)) (no-more !))))
+            (λ r zs. Left requestP obeyLent ys h c r (zs .0) (zs .1 .0)) (λ _ _. id⊢ 𝓤 _) (λ w₁ r zs e₁ was₁. use1 W (‵ (flft κ q) ⊛ ‵ (flft κ′ q′) ⊛ ‵ ftrue) (id⊢ 𝓤 _) $ split ! $ move ! (1 ∷ []) $ split ! $
             move ! (3 ∷ []) $ fsplit ! $ fsplit ! $ move ! (1 ∷ []) $ feqL ! (λ len. move ! (1 ∷ []) $ fsplit ! $ move ! (1 ∷ []) $ drop ! $
             -- [what says the last head; what says the last row; the head's token; true; the row's; the buffer's borrow; its token; true; _12; …]
             land ! (from ! (stop !)) (init ! 20 refl (ty₆ r w₁ was₁)) $

@@ -9,11 +9,17 @@ use Rattle.octets.specs.Choice.{need}
 use Rattle.rules.specs.Calls.{Call, Said, noReport}
 use Rattle.rules.specs.declared.Report.{Report}
 use Rattle.session.specs.declared.Session.{Session}
-use Rattle.session.specs.Queries.{reportAt}
 use Rattle.table.specs.declared.Head.{Head}
 use Rattle.table.specs.Table.{Table, answer, next, emptied}
+use Rattle.scan.specs.declared.Summary.{Summary}
+use Rattle.scan.specs.Passing.{summaryOf}
+use Rattle.step.specs.declared.Request.{Request}
+use Rattle.step.specs.declared.Opening.{Opening}
 use Rattle.step.specs.declared.Outcome.{Outcome}
-use Rattle.step.specs.Stepping.{tableOf}
+use Rattle.step.specs.declared.Arrival.{Arrival}
+use Rattle.step.specs.Requests.{aimedAt, targetOf}
+use Rattle.step.specs.Arriving.{receiveAt}
+use Rattle.step.specs.Stepping.{tableOf, openingTarget, Obeyed, obeyAt, openAt}
 use Rattle.korvezul.specs.declared.ReportAnswer.{ReportAnswer}
 use Rattle.korvezul.specs.declared.Begun.{Begun}
 
@@ -25,6 +31,20 @@ pub record Called : Type 0 where
 -- one step of the fold
 abbrev pub called : Table → Call → Called
 called t c = record { said = answer t c; table = next t c }
+
+-- what comes of a call on a lent row, which is scanned first
+abbrev pub obeyLent : List Session → Head → Request → Obeyed
+obeyLent row head q = obeyAt row head (summaryOf row head (targetOf q)) q
+
+abbrev pub openLent : List Session → Head → Opening → Obeyed
+openLent row head g = openAt row head (summaryOf row head (openingTarget g)) g
+
+-- a message that arrives: all the octets that are lent
+abbrev pub arrivalOf : Head → Summary → ℕ → ℕ → Arrival
+arrivalOf head seen size reading = record { head = head; reading = reading; place = seen .place; from = 0; size = size; sound = seen .sound }
+
+abbrev pub receiveLent : List Session → Head → ℕ → List ℕ → ℕ → Obeyed
+receiveLent row head label message reading = receiveAt row (arrivalOf head (summaryOf row head (aimedAt label)) (length message) reading) message
 
 -- the number and the seven numbers of a report's answer
 abbrev pub saidIn : ReportAnswer → Said
@@ -42,7 +62,7 @@ answeredWith n r =
 
 -- the answer to a report, from the outcome of its request: a refusal is its number alone, with seven noughts
 abbrev pub reportOf : Outcome → ReportAnswer
-reportOf o = cond (eqb (o .answer) 0) (answeredWith 0 (reportAt (o .before) (o .head .clock))) (answeredWith (o .answer) noReport)
+reportOf o = cond (eqb (o .answer) 0) (answeredWith 0 (o .told .report)) (answeredWith (o .answer) noReport)
 
 -- an empty table: 26 for a row that is not of 64 records; else clock 0 and no place occupied, whatever the records are
 abbrev pub begunOf : ℕ → Head → Begun

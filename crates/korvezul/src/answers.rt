@@ -5,7 +5,6 @@ use step::Outcome;
 ghost use mathlib.Core.Path.{_≡_};
 ghost use Rattle.octets.specs.Writing.{writing};
 ghost use Rattle.rules.specs.Calls.{noReport};
-ghost use Rattle.session.specs.Queries.{ccOctetsAt, cvOctetsAt};
 ghost use Rattle.korvezul.specs.Calling.{answeredWith, reportOf};
 
 pub fn number(o: Outcome) -> u32
@@ -50,24 +49,22 @@ pub fn reported(o: Outcome) -> ReportAnswer
     ensures { λ r. ⌜ r ≡ reportOf o ⌝ }
 {
     if o.answer == 0 {
-        let before = o.before;
-        return answered_with(0, session::report_at(before, o.head.clock));
+        let report = o.told.report;
+        return answered_with(0, report);
     }
     answered_with(o.answer, no_report())
 }
 
 pub fn put_cc(buffer: &mut [u8], o: Outcome) -> u32
-    ensures { λ r. ⌜ record { answer = r; buffer = now (buffer .exit) } ≡ writing (o .answer) (ccOctetsAt (o .before) (o .head .clock)) (now (buffer .entry)) ⌝ }
+    ensures { λ r. ⌜ record { answer = r; buffer = now (buffer .exit) } ≡ writing (o .answer) (o .told .cc) (now (buffer .entry)) ⌝ }
 {
-    let before = o.before;
-    let octets = session::cc_octets_at(before, o.head.clock);
+    let octets = o.told.cc;
     octets::write_octets(buffer, o.answer, &octets)
 }
 
 pub fn put_cv(buffer: &mut [u8], o: Outcome) -> u32
-    ensures { λ r. ⌜ record { answer = r; buffer = now (buffer .exit) } ≡ writing (o .answer) (cvOctetsAt (o .before) (o .head .clock)) (now (buffer .entry)) ⌝ }
+    ensures { λ r. ⌜ record { answer = r; buffer = now (buffer .exit) } ≡ writing (o .answer) (o .told .cv) (now (buffer .entry)) ⌝ }
 {
-    let before = o.before;
-    let octets = session::cv_octets_at(before, o.head.clock);
+    let octets = o.told.cv;
     octets::write_octets(buffer, o.answer, &octets)
 }

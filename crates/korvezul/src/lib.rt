@@ -12,26 +12,30 @@ use answers::number;
 use answers::put_cc;
 use answers::put_cv;
 use answers::reported;
+use requests::arrival;
 use requests::close_request;
 use requests::first_table;
 use requests::lock_request;
-use requests::open_request;
+use requests::opening;
 use requests::report_request;
 use requests::tick_request;
 use requests::unlock_request;
 use requests::write_cc_request;
 use requests::write_cv_request;
-use row::obey;
+use row::obey_at;
+use row::open_at;
+use row::receive_at;
+use row::scan_row;
 use rules::Settings;
 use session::Session;
+use step::Opening;
 use step::Outcome;
 use step::Request;
-use step::receive_request;
 use table::Head;
 ghost use mathlib.Core.Path.{_≡_};
 ghost use Rattle.rules.specs.Calls.{Tick, Open, On, Close, Lock, Unlock, Receive, ReportOn, WriteCc, WriteCv, numberOnly, writes};
-ghost use Rattle.step.specs.Stepping.{tableOf, rowStep, rowAfter};
-ghost use Rattle.korvezul.specs.Calling.{called, saidIn, emptying};
+ghost use Rattle.step.specs.Stepping.{tableOf};
+ghost use Rattle.korvezul.specs.Calling.{called, saidIn, obeyLent, openLent, emptying};
 
 // A report's answer, numbers alone so that it can be returned to any host: 0 and the seven numbers
 // of the report, or a refusal and seven noughts.
@@ -64,11 +68,23 @@ pub extern "C" fn korvezul_empty(row: &[Session], head: &mut Head) -> u32
     b.answer
 }
 
-// The call on the row with clock and set lent beside it.
+// A call that brings numbers alone, on the row with clock and set lent beside it: the scan, then the
+// call on the row as it was found.
 fn obey_lent(row: &mut [Session], head: &mut Head, q: Request) -> Outcome
-    ensures { λ o. ⌜ (o ≡ rowStep (now (row .entry)) (now (head .entry)) q .outcome) × ((now (row .exit) ≡ rowAfter (now (row .entry)) (now (head .entry)) q) × (now (head .exit) ≡ rowStep (now (row .entry)) (now (head .entry)) q .outcome .head)) ⌝ }
+    ensures { λ o. ⌜ (record { outcome = o; row = now (row .exit) } ≡ obeyLent (now (row .entry)) (now (head .entry)) q) × (now (head .exit) ≡ o .head) ⌝ }
 {
-    let o = obey(row, *head, q);
+    let s = scan_row(&*row, *head, step::target(q));
+    let o = obey_at(row, *head, s, q);
+    *head = o.head;
+    o
+}
+
+// An open, in the same way.
+fn open_lent(row: &mut [Session], head: &mut Head, g: Opening) -> Outcome
+    ensures { λ o. ⌜ (record { outcome = o; row = now (row .exit) } ≡ openLent (now (row .entry)) (now (head .entry)) g) × (now (head .exit) ≡ o .head) ⌝ }
+{
+    let s = scan_row(&*row, *head, step::opening_target(g));
+    let o = open_at(row, *head, s, g);
     *head = o.head;
     o
 }
@@ -93,8 +109,8 @@ pub extern "C" fn korvezul_open(
 ) -> u32
     ensures { λ r. ⌜ record { said = numberOnly (Open settings reading) r; table = tableOf (now (row .exit)) (now (head .exit)) } ≡ called (tableOf (now (row .entry)) (now (head .entry))) (Open settings reading) ⌝ }
 {
-    let q = open_request(settings, reading);
-    let o = obey_lent(row, head, q);
+    let g = opening(settings, reading);
+    let o = open_lent(row, head, g);
     number(o)
 }
 
@@ -152,8 +168,10 @@ pub extern "C" fn korvezul_receive(
 ) -> u32
     ensures { λ r. ⌜ record { said = numberOnly (On label (Receive (now (message .entry)) reading)) r; table = tableOf (now (row .exit)) (now (head .exit)) } ≡ called (tableOf (now (row .entry)) (now (head .entry))) (On label (Receive (now (message .entry)) reading)) ⌝ }
 {
-    let q = receive_request(label, message, reading);
-    let o = obey_lent(row, head, q);
+    let s = scan_row(&*row, *head, step::aimed_at(label));
+    let x = arrival(*head, s, message.len(), reading);
+    let o = receive_at(row, x, message);
+    *head = o.head;
     number(o)
 }
 

@@ -1,11 +1,14 @@
 // The request that each call makes.
 use crate::Begun;
 use rules::Settings;
+use scan::Summary;
+use step::Arrival;
+use step::Opening;
 use step::Request;
 use table::Head;
 ghost use mathlib.Core.Path.{_≡_};
-ghost use Rattle.step.specs.declared.Request.the-variants.{Tick, Open, Close, Lock, Unlock, ReportOn, WriteCc, WriteCv};
-ghost use Rattle.korvezul.specs.Calling.{begunOf};
+ghost use Rattle.step.specs.declared.Request.the-variants.{Tick, Close, Lock, Unlock, ReportOn, WriteCc, WriteCv};
+ghost use Rattle.korvezul.specs.Calling.{arrivalOf, begunOf};
 
 pub fn tick_request(reading: u64) -> Request
     ensures { λ r. ⌜ r ≡ Tick reading ⌝ }
@@ -13,10 +16,13 @@ pub fn tick_request(reading: u64) -> Request
     Request::Tick(reading)
 }
 
-pub fn open_request(settings: Settings, reading: u64) -> Request
-    ensures { λ r. ⌜ r ≡ Open settings reading ⌝ }
+pub fn opening(settings: Settings, reading: u64) -> Opening
+    ensures { λ r. ⌜ r ≡ record { settings = settings; reading = reading } ⌝ }
 {
-    Request::Open(settings, reading)
+    Opening {
+        settings: settings,
+        reading: reading,
+    }
 }
 
 pub fn close_request(label: u32, reading: u64) -> Request
@@ -53,6 +59,20 @@ pub fn write_cv_request(label: u32, room: usize) -> Request
     ensures { λ r. ⌜ r ≡ WriteCv label room ⌝ }
 {
     Request::WriteCv(label, room)
+}
+
+// A message that arrives, on a row that was scanned: all the octets that are lent are the message.
+pub fn arrival(head: Head, seen: Summary, size: usize, reading: u64) -> Arrival
+    ensures { λ r. ⌜ r ≡ arrivalOf head seen size reading ⌝ }
+{
+    Arrival {
+        head: head,
+        reading: reading,
+        place: seen.place,
+        from: 0,
+        size: size,
+        sound: seen.sound,
+    }
 }
 
 // Clock 0 and nothing open, for a row of 64.

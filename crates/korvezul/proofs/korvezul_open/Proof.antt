@@ -1,4 +1,4 @@
--- `korvezul::korvezul_open` meets its contract: it has the shape of `ThinCall.antt`, whose walk it cites, at the maker `open_request` and at `number`.
+-- `korvezul::korvezul_open` meets its contract: it has the shape of `ThinCall.antt`, whose walk it cites, at the maker `opening` and at `number`.
 -- Assumes nothing.
 use mathlib.Core.Path.{refl}
 use mir.Table.{spell}
@@ -7,16 +7,18 @@ use denote.Triple.Spec.{tripleOf}
 use denote.Triple.Table.{entered, cited}
 use Rattle.rules.specs.Calls.{Open, numberOnly}
 use Rattle.step.specs.declared.Outcome.{Outcome}
-use Rattle.row.proofs.Plains.{u32P, u64P, requestP, outcomeP}
+use Rattle.row.proofs.Plains.{u32P, u64P, openingP, outcomeP}
 use Rattle.korvezul.proofs.CallPlains.{settingsP}
-use Rattle.korvezul.proofs.ThinEnd.{ObeyLent, Answers}
+use Rattle.korvezul.specs.Calling.{openLent}
+use Rattle.korvezul.proofs.OneStep.{open-step}
+use Rattle.korvezul.proofs.ThinEnd.{OnRow, Answers}
 use Rattle.korvezul.proofs.ThinCall as thin
-use Rattle.korvezul.proofs.obey_lent.Symbol as o-def
-use Rattle.korvezul.proofs.obey_lent.Symbol.{name as #korvezul·obey-lent}
-use Rattle.korvezul.proofs.obey_lent.Met as o-thm
-use Rattle.korvezul.proofs.requests.open_request.Symbol as g-def
-use Rattle.korvezul.proofs.requests.open_request.Symbol.{name as #korvezul·open-request}
-use Rattle.korvezul.proofs.requests.open_request.Met as g-thm
+use Rattle.korvezul.proofs.open_lent.Symbol as o-def
+use Rattle.korvezul.proofs.open_lent.Symbol.{name as #korvezul·open-lent}
+use Rattle.korvezul.proofs.open_lent.Met as o-thm
+use Rattle.korvezul.proofs.requests.opening.Symbol as g-def
+use Rattle.korvezul.proofs.requests.opening.Symbol.{name as #korvezul·opening}
+use Rattle.korvezul.proofs.requests.opening.Met as g-thm
 use Rattle.korvezul.proofs.answers.number.Symbol as h-def
 use Rattle.korvezul.proofs.answers.number.Symbol.{name as #korvezul·number}
 use Rattle.korvezul.proofs.answers.number.Met as h-thm
@@ -31,8 +33,9 @@ unfolding code.routine tablesOf
 korvezul-open-spec 𝓤 H 𝓜 𝓖 𝓡 =
     entered 𝓤 H (tripleOf 𝓤 H (𝓖 .A) f.signature (f.spec 𝓤 H (𝓖 .A) (𝓜 .mem) (𝓡 .run)))
     (tables 𝓤 H 𝓜 𝓡 code.env .C) (tables 𝓤 H 𝓜 𝓡 code.env .Λ) #korvezul·open code.function (code.unfolded 𝓤 H 𝓜 𝓡)
-    (thin.meets settingsP u64P u32P (spell pieces.table) (settingsP .typed 𝓤 H (𝓖 .A) (givenOf 𝓤 H 𝓜 𝓖)) (u64P .typed 𝓤 H (𝓖 .A) (givenOf 𝓤 H 𝓜 𝓖)) (u32P .typed 𝓤 H (𝓖 .A) (givenOf 𝓤 H 𝓜 𝓖)) (requestP .typed 𝓤 H (𝓖 .A) (givenOf 𝓤 H 𝓜 𝓖)) (outcomeP .typed 𝓤 H (𝓖 .A) (givenOf 𝓤 H 𝓜 𝓖))
-    Open (λ g t. numberOnly (Open g t)) (λ (o : Outcome). o .answer) (λ g t u. refl) #korvezul·open-request #korvezul·number 𝓤 H (𝓖 .A) (givenOf 𝓤 H 𝓜 𝓖) (𝓜 .mem) (𝓡 .run) (tablesOf 𝓤 H 𝓜 (tables 𝓤 H 𝓜 𝓡 code.env))
-    (cited 𝓤 H (thin.Maker settingsP u64P Open 𝓤 H (𝓖 .A)) 𝓜 𝓡 code.env #korvezul·open-request g-def.routine code.calls-korvezul·requests·open-request (g-thm.met 𝓤 H 𝓜 𝓖 𝓡))
+    (thin.meets settingsP u64P openingP u32P (spell pieces.table) (settingsP .typed 𝓤 H (𝓖 .A) (givenOf 𝓤 H 𝓜 𝓖)) (u64P .typed 𝓤 H (𝓖 .A) (givenOf 𝓤 H 𝓜 𝓖)) (u32P .typed 𝓤 H (𝓖 .A) (givenOf 𝓤 H 𝓜 𝓖)) (openingP .typed 𝓤 H (𝓖 .A) (givenOf 𝓤 H 𝓜 𝓖)) (outcomeP .typed 𝓤 H (𝓖 .A) (givenOf 𝓤 H 𝓜 𝓖))
+    Open (λ g t. numberOnly (Open g t)) (λ (o : Outcome). o .answer) (λ g t u. refl)
+    (λ g t. record { settings = g; reading = t }) openLent (λ row head long g t. open-step row head long (record { settings = g; reading = t })) #korvezul·opening #korvezul·open-lent #korvezul·number 𝓤 H (𝓖 .A) (givenOf 𝓤 H 𝓜 𝓖) (tablesOf 𝓤 H 𝓜 (tables 𝓤 H 𝓜 𝓡 code.env))
+    (cited 𝓤 H (thin.Maker settingsP u64P openingP (λ g t. record { settings = g; reading = t }) 𝓤 H (𝓖 .A)) 𝓜 𝓡 code.env #korvezul·opening g-def.routine code.calls-korvezul·requests·opening (g-thm.met 𝓤 H 𝓜 𝓖 𝓡))
     (cited 𝓤 H (Answers u32P (λ (o : Outcome). o .answer) 𝓤 H (𝓖 .A)) 𝓜 𝓡 code.env #korvezul·number h-def.routine code.calls-korvezul·answers·number (h-thm.met 𝓤 H 𝓜 𝓖 𝓡))
-    (cited 𝓤 H (ObeyLent 𝓤 H (𝓖 .A) (𝓜 .mem) (𝓡 .run)) 𝓜 𝓡 code.env #korvezul·obey-lent o-def.routine code.calls-korvezul·obey-lent (o-thm.met 𝓤 H 𝓜 𝓖 𝓡)))
+    (cited 𝓤 H (OnRow openingP openLent 𝓤 H (𝓖 .A)) 𝓜 𝓡 code.env #korvezul·open-lent o-def.routine code.calls-korvezul·open-lent (o-thm.met 𝓤 H 𝓜 𝓖 𝓡)))

@@ -7,11 +7,13 @@ use denote.Memory.{pointee}
 use denote.Triple.Spec.{tripleOf}
 use denote.Triple.Table.{entered, cited}
 use Rattle.rules.specs.Calls.{WriteCc}
-use Rattle.session.specs.Queries.{ccOctetsAt}
 use Rattle.step.specs.declared.Request.the-variants as requests
 use Rattle.step.specs.declared.Outcome.{Outcome}
 use Rattle.row.proofs.RecordOfRow.{RowRecord}
 use Rattle.row.proofs.Plains.{headP, requestP, outcomeP}
+use Rattle.korvezul.specs.Calling.{obeyLent}
+use Rattle.korvezul.proofs.OneStep.{act-step}
+use Rattle.korvezul.proofs.ThinEnd.{OnRow}
 use Rattle.korvezul.proofs.ThinWrite as thin
 use Rattle.korvezul.proofs.requests.write_cc_request.Symbol as g-def
 use Rattle.korvezul.proofs.requests.write_cc_request.Symbol.{name as #korvezul·write-cc-request}
@@ -33,9 +35,9 @@ unfolding code.routine tablesOf
 korvezul-write-cc-spec 𝓤 H 𝓜 𝓖 𝓡 =
     entered 𝓤 H (tripleOf 𝓤 H (𝓖 .A) f.signature (f.spec 𝓤 H (𝓖 .A) (𝓜 .mem) (𝓡 .run)))
     (tables 𝓤 H 𝓜 𝓡 code.env .C) (tables 𝓤 H 𝓜 𝓡 code.env .Λ) #korvezul·write-cc code.function (code.unfolded 𝓤 H 𝓜 𝓡)
-    (thin.meets WriteCc requests.WriteCc (λ (o : Outcome). ccOctetsAt (o .before) (o .head .clock)) (λ l bs. refl) (λ l bs o. refl) #korvezul·write-cc-request #korvezul·put-cc 𝓤 H (𝓖 .A) (givenOf 𝓤 H 𝓜 𝓖) (𝓜 .mem) (𝓡 .run) (tablesOf 𝓤 H 𝓜 (tables 𝓤 H 𝓜 𝓡 code.env))
+    (thin.meets WriteCc requests.WriteCc (λ (o : Outcome). o .told .cc) (λ row head long l bs. act-step row head long l (WriteCc bs) refl) (λ l bs o. refl) #korvezul·write-cc-request #korvezul·put-cc 𝓤 H (𝓖 .A) (givenOf 𝓤 H 𝓜 𝓖) (tablesOf 𝓤 H 𝓜 (tables 𝓤 H 𝓜 𝓡 code.env))
     (cited 𝓤 H (thin.Maker requests.WriteCc 𝓤 H (𝓖 .A)) 𝓜 𝓡 code.env #korvezul·write-cc-request g-def.routine code.calls-korvezul·requests·write-cc-request (g-thm.met 𝓤 H 𝓜 𝓖 𝓡))
-    (cited 𝓤 H (thin.ObeyLent 𝓤 H (𝓖 .A) (𝓜 .mem) (𝓡 .run)) 𝓜 𝓡 code.env #korvezul·obey-lent o-def.routine code.calls-korvezul·obey-lent (o-thm.met 𝓤 H 𝓜 𝓖 𝓡))
-    (cited 𝓤 H (thin.Putter (λ (o : Outcome). ccOctetsAt (o .before) (o .head .clock)) 𝓤 H (𝓖 .A)) 𝓜 𝓡 code.env #korvezul·put-cc h-def.routine code.calls-korvezul·answers·put-cc (h-thm.met 𝓤 H 𝓜 𝓖 𝓡))
+    (cited 𝓤 H (OnRow requestP obeyLent 𝓤 H (𝓖 .A)) 𝓜 𝓡 code.env #korvezul·obey-lent o-def.routine code.calls-korvezul·obey-lent (o-thm.met 𝓤 H 𝓜 𝓖 𝓡))
+    (cited 𝓤 H (thin.Putter (λ (o : Outcome). o .told .cc) 𝓤 H (𝓖 .A)) 𝓜 𝓡 code.env #korvezul·put-cc h-def.routine code.calls-korvezul·answers·put-cc (h-thm.met 𝓤 H 𝓜 𝓖 𝓡))
     (spell pieces.table (pointee (requestP .T .written))) (spell pieces.table (pointee (outcomeP .T .written))) (spell pieces.table (pointee (RowRecord .written))) (spell pieces.table (pointee (headP .T .written)))
     (requestP .typed 𝓤 H (𝓖 .A) (givenOf 𝓤 H 𝓜 𝓖)) (outcomeP .typed 𝓤 H (𝓖 .A) (givenOf 𝓤 H 𝓜 𝓖)))

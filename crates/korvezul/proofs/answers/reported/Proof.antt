@@ -11,8 +11,7 @@ reported-spec =
     tie.close
     (tie.spec
     (λ c κs. search needs)
-    (λ c κs. search needs)
-    (λ c. c .answered-with .ensures ∙ rw (c .before .report-at .ensures, eq-eqb (c .before .before .before .before .before .args .o .answer) 0 (c .before .before .before .if1 .taken)))
+    (λ c. c .answered-with .ensures ∙ rw (eq-eqb (c .before .before .before .before .args .o .answer) 0 (c .before .before .if1 .taken)))
     (λ c κs. search needs)
     (λ c κs. search needs)
     (λ c. c .answered-with2 .ensures ∙ rw (c .before .no-report .ensures, ne-eqb (c .before .before .before .before .args .o .answer) 0 (c .before .before .if1 .left))))
