@@ -1,2 +1,4 @@
 pub mod Typing
+pub mod Digits
 pub mod LineSaid
+pub mod LineShort

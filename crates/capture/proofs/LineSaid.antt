@@ -1,26 +1,69 @@
--- The line for a request's outcome is the line for what the table answers. For every row, head and call whose lent buffer is as long as what is written.
+-- A line has one of three shapes, whatever is called and whatever is said. Octets that are written over a buffer of their length are the buffer.
 -- Assumes nothing.
 use Prim.Native.Nat.{ℕ, _≤_}
 use native.Mathlib.Omega.{arith}
-use mathlib.Core.Path.{_≡_, refl, sym, ap, _∙_}
+use mathlib.Core.Path.{_≡_, refl, _∙_}
+use mathlib.Core.Bool.{Bool, true, false, cond}
 use mathlib.Core.List.{List, [], append-nil}
-use lib.Dec.{eqb}
 use lib.ListN.{length, drop, drop-of-length-le}
-use borrow.Author.Tests.{eqb-true, eqb-false}
+use lib.Dec.{eqb}
+use borrow.Author.Tests.{ne-eqb}
 use Rattle.octets.specs.Writing.{writing}
-use Rattle.octets.proofs.Writing.{refused, fits}
-use Rattle.rules.specs.Calls.{Act, Close, Lock, Unlock, Receive, ReportOn, WriteCc, WriteCv, Call, Tick, Open, On}
-use Rattle.rules.proofs.Bools.{split}
-use Rattle.session.specs.declared.Session.{Session}
-use Rattle.session.specs.Queries.{ccOctetsAt, cvOctetsAt}
-use Rattle.table.specs.declared.Head.{Head}
-use Rattle.table.specs.Table.{answer}
-use Rattle.step.specs.declared.Outcome.{Outcome}
-use Rattle.step.specs.Requests.{requestOf}
-use Rattle.step.specs.Stepping.{tableOf, rowStep}
-use Rattle.step.proofs.TableStep.{saidOf, step-said, cc-length, cv-length}
-use Rattle.capture.specs.Lines.{line}
-use Rattle.capture.specs.Typing.{lineFor}
+use Rattle.octets.proofs.Writing.{fits}
+use Rattle.rules.specs.Calls.{Act, Close, Lock, Unlock, Receive, ReportOn, WriteCc, WriteCv, Call, Tick, Open, On, Said}
+use Rattle.capture.specs.Lines.{answerText, callText, plainLine, reportLine, octetsLine, line}
+
+-- calls whose answer is a number alone
+abbrev pub isPlain : Call → Bool
+isPlain (Tick u) = true
+isPlain (Open g u) = true
+isPlain (On l (Close u)) = true
+isPlain (On l (Lock u)) = true
+isPlain (On l (Unlock u)) = true
+isPlain (On l (Receive m u)) = true
+isPlain (On l ReportOn) = false
+isPlain (On l (WriteCc b)) = false
+isPlain (On l (WriteCv b)) = false
+
+plain-text : (c : Call) (a : Said) → isPlain c ≡ true → callText c a ≡ []
+plain-text (Tick u) a p = refl
+plain-text (Open g u) a p = refl
+plain-text (On l (Close u)) a p = refl
+plain-text (On l (Lock u)) a p = refl
+plain-text (On l (Unlock u)) a p = refl
+plain-text (On l (Receive m u)) a p = refl
+plain-text (On l ReportOn) a p = absurd (let z : _≡_ {A = ℕ} 0 1 = cc in omega arith)
+plain-text (On l (WriteCc b)) a p = absurd (let z : _≡_ {A = ℕ} 0 1 = cc in omega arith)
+plain-text (On l (WriteCv b)) a p = absurd (let z : _≡_ {A = ℕ} 0 1 = cc in omega arith)
+
+either-none : (b : Bool) → _≡_ {A = List ℕ} (cond b [] []) []
+either-none true = refl
+either-none false = refl
+
+module _ (number : ℕ) where
+  -- a refusal
+  pub line-refused : (c : Call) (a : Said) → (a .number ≡ 0 → ⊥) → line number c a ≡ plainLine number (a .number)
+  unfolding line plainLine
+  line-refused c a z = rw (ne-eqb (a .number) 0 z, append-nil (answerText number (a .number)))
+
+  -- a call whose answer is a number alone
+  pub line-plain : (c : Call) (a : Said) → isPlain c ≡ true → line number c a ≡ plainLine number (a .number)
+  unfolding line plainLine
+  line-plain c a p =
+      rw (plain-text c a p, either-none (eqb (a .number) 0), append-nil (answerText number (a .number)))
+
+  module _ (l : ℕ) (a : Said) (z : a .number ≡ 0) where
+    pub line-report : line number (On l ReportOn) a ≡ reportLine number (a .report)
+    unfolding line reportLine
+    line-report = rw z
+
+    pub line-cc : (b : List ℕ) → line number (On l (WriteCc b)) a ≡ octetsLine number (a .buffer)
+    unfolding line octetsLine
+    line-cc b = rw z
+
+    pub line-cv : (b : List ℕ) → line number (On l (WriteCv b)) a ≡ octetsLine number (a .buffer)
+    unfolding line octetsLine
+    line-cv b = rw z
 
 -- a lent buffer has the length of what is written into it
 abbrev pub ExactAct : Act → Type 0
@@ -38,34 +81,8 @@ Exact (Open g u) = Unit {0}
 Exact (On l a) = ExactAct a
 
 -- octets written over a buffer of their length
-written : (octets b : List ℕ) → length b ≡ length octets → writing 0 octets b ≡ record { answer = 0; buffer = octets }
+pub written : (octets b : List ℕ) → length b ≡ length octets → writing 0 octets b ≡ record { answer = 0; buffer = octets }
 written octets b e =
     let least : length b ≤ length octets = omega (arith, e) in
     let none : drop (length octets) b ≡ [] = drop-of-length-le b least in
     fits octets b (omega (arith, e)) ∙ rw (none, append-nil octets)
-
-module _ (number : ℕ) where
-  -- what is said of an outcome, as a line
-  outcome-said : (c : Call) (o : Outcome) → Exact c → line number c (saidOf c o) ≡ lineFor number (requestOf c) o
-  unfolding line lineFor
-  outcome-said (Tick u) o x = refl
-  outcome-said (Open g u) o x = refl
-  outcome-said (On l (Close u)) o x = refl
-  outcome-said (On l (Lock u)) o x = refl
-  outcome-said (On l (Unlock u)) o x = refl
-  outcome-said (On l (Receive m u)) o x = refl
-  outcome-said (On l ReportOn) o x = split (eqb (o .answer) 0) (λ z. rw (eqb-true (o .answer) 0 z)) (λ z. rw (z, z))
-  outcome-said (On l (WriteCc b)) o x =
-      let octets = ccOctetsAt (o .before) (o .head .clock) in
-      split (eqb (o .answer) 0)
-      (λ z. rw (eqb-true (o .answer) 0 z, written octets b (x ∙ sym (cc-length (o .before) (o .head .clock)))))
-      (λ z. rw (refused octets b (o .answer) (eqb-false (o .answer) 0 z), z))
-  outcome-said (On l (WriteCv b)) o x =
-      let octets = cvOctetsAt (o .before) (o .head .clock) in
-      split (eqb (o .answer) 0)
-      (λ z. rw (eqb-true (o .answer) 0 z, written octets b (x ∙ sym (cv-length (o .before) (o .head .clock)))))
-      (λ z. rw (refused octets b (o .answer) (eqb-false (o .answer) 0 z), z))
-
-  pub line-said : (row : List Session) (head : Head) (c : Call) → Exact c
-      → line number c (answer (tableOf row head) c) ≡ lineFor number (requestOf c) (rowStep row head (requestOf c) .outcome)
-  line-said row head c x = ap (line number c) (sym (step-said row head c)) ∙ outcome-said c (rowStep row head (requestOf c) .outcome) x

@@ -51,6 +51,21 @@ callText (On l act) a = actText act a
 unfoldable pub line : ℕ → Call → Said → List ℕ
 line number c a = decimal number ++ spaced (a .number) ++ cond (eqb (a .number) 0) (callText c a) [] ++ 10 ∷ []
 
+-- the three shapes of a line. A record's number and its answer, with nothing behind them
+abbrev pub answerText : ℕ → ℕ → List ℕ
+answerText number answer = decimal number ++ spaced answer
+
+unfoldable pub plainLine : ℕ → ℕ → List ℕ
+plainLine number answer = answerText number answer ++ 10 ∷ []
+
+-- with a report's seven numbers behind a 0
+unfoldable pub reportLine : ℕ → Report → List ℕ
+reportLine number r = answerText number 0 ++ sevenNumbers r ++ 10 ∷ []
+
+-- with octets in hex behind a 0
+unfoldable pub octetsLine : ℕ → List ℕ → List ℕ
+octetsLine number octets = answerText number 0 ++ (32 ∷ hex octets) ++ 10 ∷ []
+
 -- the number of the record behind that of number n. Numbers stay at the largest that 64 bits hold
 abbrev pub numbered : ℕ → ℕ
 numbered n = cond (ltb n 18446744073709551615) (n + 1) n

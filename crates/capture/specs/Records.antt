@@ -25,6 +25,13 @@ headerFits s = leb 8 (length s) && headerIs (getD s 0 0) (getD s 1 0) (getD s 2 
 unfoldable pub recordIn : List ℕ → Record
 recordIn s = record { time = numberAt 8 s 0; label = numberAt 4 s 8; kind = numberAt 2 s 12; size = numberAt 2 s 14 }
 
+-- what is read at a place: noughts where there are not 16 octets
+abbrev pub noRecord : Record
+noRecord = record { time = 0; label = 0; kind = 0; size = 0 }
+
+abbrev pub recordFrom : List ℕ → Record
+recordFrom s = cond (ltb (length s) 16) noRecord (recordIn s)
+
 abbrev pub bodyIn : List ℕ → ℕ → List ℕ
 bodyIn s size = take size (drop 16 s)
 

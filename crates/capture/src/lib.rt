@@ -1,16 +1,19 @@
-// Captures: the header, a cursor over records, the request that a record makes, and the line for
-// its answer.
+// Captures: the header, a cursor over records, the settings that an open brings, and the lines for
+// answers.
 mod lines;
 mod records;
 
 pub use lines::put_decimal;
-pub use lines::put_line;
+pub use lines::put_plain;
+pub use lines::put_reported;
 pub use lines::put_words;
+pub use lines::put_written;
+pub use records::body_at;
 pub use records::header_fits;
 pub use records::is_whole;
 pub use records::next_record;
-pub use records::request_at;
-pub use records::size_of;
+pub use records::record_at;
+pub use records::settings_in;
 
 // The 16 octets before a body.
 pub struct Record {

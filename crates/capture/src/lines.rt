@@ -1,13 +1,12 @@
-// The line for an answer, put octet by octet into a lent buffer. At the buffer's end nothing is put;
-// whoever calls has seen to the room.
+// Lines, put into a lent buffer. At the buffer's end nothing is put; whoever calls has seen to the
+// room.
 use rules::Report;
-use step::Outcome;
-use step::Request;
 ghost use mathlib.Core.Path.{_≡_};
-ghost use Prim.Native.Nat.{_+_, _%_};
-ghost use mathlib.Core.List.{_∷_};
-ghost use Rattle.capture.specs.Lines.{digits, decimal, hexDigit, hex, spaced, sevenNumbers};
-ghost use Rattle.capture.specs.Typing.{requestText, lineFor, pushed, typed};
+ghost use Prim.Native.Nat.{_+_, _*_, _%_, _≤_};
+ghost use lib.Dec.{leb};
+ghost use lib.ListN.{length};
+ghost use Rattle.capture.specs.Lines.{digits, decimal, hexDigit, hex, spaced, sevenNumbers, answerText, plainLine, reportLine, octetsLine};
+ghost use Rattle.capture.specs.Typing.{pushed, typed};
 
 // One octet.
 fn push(out: &mut [u8], at: usize, b: u8) -> usize
@@ -18,28 +17,6 @@ fn push(out: &mut [u8], at: usize, b: u8) -> usize
         return at + 1;
     }
     at
-}
-
-// A number in decimal, of at most that many digits.
-fn put_digits(out: &mut [u8], at: usize, n: u64, places: u32) -> usize
-    ensures { λ r. ⌜ record { buffer = now (out .exit); at = r } ≡ typed (record { buffer = now (out .entry); at = at }) (digits places n) ⌝ }
-{
-    if places == 0 {
-        return at;
-    }
-    let last = 48 + (n % 10) as u8;
-    if n < 10 {
-        return push(out, at, last);
-    }
-    let next = put_digits(&mut *out, at, n / 10, places - 1);
-    push(out, next, last)
-}
-
-// A number in decimal.
-pub fn put_decimal(out: &mut [u8], at: usize, n: u64) -> usize
-    ensures { λ r. ⌜ record { buffer = now (out .exit); at = r } ≡ typed (record { buffer = now (out .entry); at = at }) (decimal n) ⌝ }
-{
-    put_digits(out, at, n, 20)
 }
 
 // Octets as they are.
@@ -55,12 +32,106 @@ pub fn put_words(out: &mut [u8], at: usize, words: &[u8]) -> usize
     next
 }
 
+// Whether a buffer of that length has room for so many octets at a place.
+fn has_room(room: usize, at: usize, octets: usize) -> bool
+    ensures { λ r. ⌜ r ≡ leb (at + octets) room ⌝ }
+{
+    if room < at {
+        return false;
+    }
+    octets <= room - at
+}
+
+// How many of a number's last ten digits there are.
+fn few_digits(n: u64) -> usize
+    ensures { λ r. ⌜ r ≡ length (digits 10 n) ⌝ }
+{
+    if n < 10 {
+        return 1;
+    }
+    if n < 100 {
+        return 2;
+    }
+    if n < 1_000 {
+        return 3;
+    }
+    if n < 10_000 {
+        return 4;
+    }
+    if n < 100_000 {
+        return 5;
+    }
+    if n < 1_000_000 {
+        return 6;
+    }
+    if n < 10_000_000 {
+        return 7;
+    }
+    if n < 100_000_000 {
+        return 8;
+    }
+    if n < 1_000_000_000 {
+        return 9;
+    }
+    10
+}
+
+// How many digits a number has.
+fn digit_count(n: u64) -> usize
+    ensures { λ r. ⌜ r ≡ length (decimal n) ⌝ }
+{
+    if n < 10_000_000_000 {
+        return few_digits(n);
+    }
+    10 + few_digits(n / 10_000_000_000)
+}
+
+// A number in decimal, from its last digit back; there is room for its digits.
+fn fill_digits(out: &mut [u8], at: usize, count: usize, n: u64) -> usize
+    requires { ⌜ count ≡ length (decimal n) ⌝ }
+    requires { ⌜ at + count ≤ length (now out) ⌝ }
+    ensures { λ r. ⌜ record { buffer = now (out .exit); at = r } ≡ typed (record { buffer = now (out .entry); at = at }) (decimal n) ⌝ }
+{
+    let mut rest = n;
+    let mut left = count;
+    while 0 < left {
+        left -= 1;
+        out[at + left] = 48 + (rest % 10) as u8;
+        rest = rest / 10;
+    }
+    at + count
+}
+
+// A number whose digits may run over the buffer's end.
+fn put_cut_digits(out: &mut [u8], at: usize, count: usize, n: u64) -> usize
+    requires { ⌜ count ≡ length (decimal n) ⌝ }
+    ensures { λ r. ⌜ record { buffer = now (out .exit); at = r } ≡ typed (record { buffer = now (out .entry); at = at }) (decimal n) ⌝ }
+{
+    let mut all = [0u8; 20];
+    let end = fill_digits(&mut all, 0, count, n);
+    put_words(out, at, &all[..end])
+}
+
+// A number in decimal.
+pub fn put_decimal(out: &mut [u8], at: usize, n: u64) -> usize
+    ensures { λ r. ⌜ record { buffer = now (out .exit); at = r } ≡ typed (record { buffer = now (out .entry); at = at }) (decimal n) ⌝ }
+{
+    if n < 10 {
+        return push(out, at, 48 + n as u8);
+    }
+    let count = digit_count(n);
+    if has_room(out.len(), at, count) {
+        return fill_digits(out, at, count, n);
+    }
+    put_cut_digits(out, at, count, n)
+}
+
 // A space and a number.
 fn put_spaced(out: &mut [u8], at: usize, n: u64) -> usize
     ensures { λ r. ⌜ record { buffer = now (out .exit); at = r } ≡ typed (record { buffer = now (out .entry); at = at }) (spaced n) ⌝ }
 {
     let next = push(&mut *out, at, 32);
-    put_digits(out, next, n, 20)
+    put_decimal(out, next, n)
 }
 
 fn hex_digit(d: u8) -> u8
@@ -73,8 +144,25 @@ fn hex_digit(d: u8) -> u8
     87 + x
 }
 
-// Octets in hex, in one run.
-fn put_hex(out: &mut [u8], at: usize, octets: &[u8]) -> usize
+// Octets in hex, in one run; there is room for them.
+fn fill_hex(out: &mut [u8], at: usize, octets: &[u8]) -> usize
+    requires { ⌜ at + 2 * length (now octets) ≤ length (now out) ⌝ }
+    ensures { λ r. ⌜ record { buffer = now (out .exit); at = r } ≡ typed (record { buffer = now (out .entry); at = at }) (hex (now (octets .entry))) ⌝ }
+{
+    let mut next = at;
+    let mut i: usize = 0;
+    while i < octets.len() {
+        let b = octets[i];
+        out[next] = hex_digit(b / 16);
+        out[next + 1] = hex_digit(b);
+        next += 2;
+        i += 1;
+    }
+    next
+}
+
+// Octets in hex that may run over the buffer's end.
+fn put_cut_hex(out: &mut [u8], at: usize, octets: &[u8]) -> usize
     ensures { λ r. ⌜ record { buffer = now (out .exit); at = r } ≡ typed (record { buffer = now (out .entry); at = at }) (hex (now (octets .entry))) ⌝ }
 {
     let mut next = at;
@@ -86,6 +174,16 @@ fn put_hex(out: &mut [u8], at: usize, octets: &[u8]) -> usize
         i += 1;
     }
     next
+}
+
+// Octets in hex.
+fn put_hex(out: &mut [u8], at: usize, octets: &[u8]) -> usize
+    ensures { λ r. ⌜ record { buffer = now (out .exit); at = r } ≡ typed (record { buffer = now (out .entry); at = at }) (hex (now (octets .entry))) ⌝ }
+{
+    if has_room(out.len(), at, 2 * octets.len()) {
+        return fill_hex(out, at, octets);
+    }
+    put_cut_hex(out, at, octets)
 }
 
 fn put_report(out: &mut [u8], at: usize, r: Report) -> usize
@@ -100,42 +198,37 @@ fn put_report(out: &mut [u8], at: usize, r: Report) -> usize
     put_spaced(out, f, r.conditions as u64)
 }
 
-// What stands behind an accepted answer.
-fn put_text(out: &mut [u8], at: usize, q: Request, o: Outcome) -> usize
-    ensures { λ n. ⌜ record { buffer = now (out .exit); at = n } ≡ typed (record { buffer = now (out .entry); at = at }) (requestText q o) ⌝ }
+// The number of a record and its answer.
+fn put_answer(out: &mut [u8], at: usize, number: u64, answer: u32) -> usize
+    ensures { λ n. ⌜ record { buffer = now (out .exit); at = n } ≡ typed (record { buffer = now (out .entry); at = at }) (answerText number answer) ⌝ }
 {
-    let before = o.before;
-    let clock = o.head.clock;
-    match q {
-        Request::ReportOn(_) => put_report(out, at, session::report_at(before, clock)),
-        Request::WriteCc(_, _) => {
-            let octets = session::cc_octets_at(before, clock);
-            let next = push(&mut *out, at, 32);
-            put_hex(out, next, &octets)
-        }
-        Request::WriteCv(_, _) => {
-            let octets = session::cv_octets_at(before, clock);
-            let next = push(&mut *out, at, 32);
-            put_hex(out, next, &octets)
-        }
-        Request::Tick(_) => at,
-        Request::Open(_, _) => at,
-        Request::Close(_, _) => at,
-        Request::Lock(_, _) => at,
-        Request::Unlock(_, _) => at,
-        Request::Receive(_, _, _) => at,
-    }
+    let next = put_decimal(&mut *out, at, number);
+    put_spaced(out, next, answer as u64)
 }
 
-// The line for a request's outcome: its number, the answer, and what stands behind it.
-pub fn put_line(out: &mut [u8], at: usize, number: u64, q: Request, o: Outcome) -> usize
-    ensures { λ n. ⌜ record { buffer = now (out .exit); at = n } ≡ typed (record { buffer = now (out .entry); at = at }) (lineFor number q o) ⌝ }
+// The line of an answer with nothing behind it.
+pub fn put_plain(out: &mut [u8], at: usize, number: u64, answer: u32) -> usize
+    ensures { λ n. ⌜ record { buffer = now (out .exit); at = n } ≡ typed (record { buffer = now (out .entry); at = at }) (plainLine number answer) ⌝ }
 {
-    let a = put_digits(&mut *out, at, number, 20);
-    let b = put_spaced(&mut *out, a, o.answer as u64);
-    if o.answer == 0 {
-        let c = put_text(&mut *out, b, q, o);
-        return push(out, c, 10);
-    }
+    let next = put_answer(&mut *out, at, number, answer);
+    push(out, next, 10)
+}
+
+// The line of a report.
+pub fn put_reported(out: &mut [u8], at: usize, number: u64, r: Report) -> usize
+    ensures { λ n. ⌜ record { buffer = now (out .exit); at = n } ≡ typed (record { buffer = now (out .entry); at = at }) (reportLine number r) ⌝ }
+{
+    let a = put_answer(&mut *out, at, number, 0);
+    let b = put_report(&mut *out, a, r);
     push(out, b, 10)
+}
+
+// The line of octets that were written.
+pub fn put_written(out: &mut [u8], at: usize, number: u64, octets: &[u8]) -> usize
+    ensures { λ n. ⌜ record { buffer = now (out .exit); at = n } ≡ typed (record { buffer = now (out .entry); at = at }) (octetsLine number (now (octets .entry))) ⌝ }
+{
+    let a = put_answer(&mut *out, at, number, 0);
+    let b = push(&mut *out, a, 32);
+    let c = put_hex(&mut *out, b, octets);
+    push(out, c, 10)
 }

@@ -1,19 +1,19 @@
-// The cursor over a capture: what stands at a place, and the request that a record makes.
+// The cursor over a capture: what stands at a place, a record's body, and the settings of an open.
 use crate::Next;
 use crate::Record;
 use cv::MepId;
+use octets::from_place;
 use octets::get_u8;
 use octets::get_u16;
 use octets::get_u32;
 use octets::get_u64;
+use octets::part;
 use rules::Settings;
-use step::Request;
 ghost use mathlib.Core.Path.{_≡_};
-ghost use Prim.Native.Nat.{_+_};
+ghost use Prim.Native.Nat.{_≤_};
 ghost use mathlib.Core.Bool.{cond};
 ghost use lib.ListN.{drop};
-ghost use Rattle.step.specs.Requests.{requestOn, requestOf};
-ghost use Rattle.capture.specs.Records.{headerIs, headerFits, recordIn, bodyIn, isBroken, nextOf, nextIn, isWhole, sizeOf, mepIn, bodyFits, settingsIn, actOf, callOf, callIn};
+ghost use Rattle.capture.specs.Records.{headerIs, headerFits, noRecord, recordFrom, bodyIn, isBroken, nextOf, nextIn, isWhole, mepIn, bodyFits, settingsIn};
 
 fn header_is(first: u8, second: u8, third: u8, version: u16, x: u8, y: u8, z: u8) -> bool
     ensures { λ r. ⌜ r ≡ headerIs first second third version x y z ⌝ }
@@ -58,25 +58,30 @@ pub fn header_fits(s: &[u8]) -> bool
     )
 }
 
-fn record_in(s: &[u8]) -> Record
-    ensures { λ r. ⌜ r ≡ recordIn (now (s .entry)) ⌝ }
+fn no_record() -> Record
+    ensures { λ r. ⌜ r ≡ noRecord ⌝ }
 {
+    Record {
+        time: 0,
+        label: 0,
+        kind: 0,
+        size: 0,
+    }
+}
+
+// The length is asked once, ahead of the octets: behind it each of them is there.
+fn record_in(s: &[u8]) -> Record
+    ensures { λ r. ⌜ r ≡ recordFrom (now (s .entry)) ⌝ }
+{
+    if s.len() < 16 {
+        return no_record();
+    }
     Record {
         time: get_u64(s, 0),
         label: get_u32(s, 8),
         kind: get_u16(s, 12),
         size: get_u16(s, 14),
     }
-}
-
-// The octets from a place on; none past the end.
-fn from_place(s: &[u8], at: usize) -> &[u8]
-    ensures { λ r. ⌜ now r ≡ drop at (now (s .entry)) ⌝ }
-{
-    if s.len() <= at {
-        return &s[0..0];
-    }
-    &s[at..]
 }
 
 fn is_broken(kind: u16, size: u16) -> bool
@@ -88,15 +93,11 @@ fn is_broken(kind: u16, size: u16) -> bool
     2048 < size
 }
 
+// What stands where there are octets enough for the 16 before a body.
 fn next_of(octets: usize, r: Record) -> Next
+    requires { ⌜ 16 ≤ octets ⌝ }
     ensures { λ n. ⌜ n ≡ nextOf octets r ⌝ }
 {
-    if octets == 0 {
-        return Next::End;
-    }
-    if octets < 16 {
-        return Next::Short;
-    }
     if is_broken(r.kind, r.size) {
         return Next::Broken;
     }
@@ -106,12 +107,26 @@ fn next_of(octets: usize, r: Record) -> Next
     Next::Whole(r)
 }
 
-// What stands at a place.
+// What stands at a place. The length is asked first: behind that test the octets are read with no
+// test for each.
 pub fn next_record(s: &[u8], at: usize) -> Next
     ensures { λ r. ⌜ r ≡ nextIn (drop at (now (s .entry))) ⌝ }
 {
     let rest = from_place(s, at);
+    if rest.len() == 0 {
+        return Next::End;
+    }
+    if rest.len() < 16 {
+        return Next::Short;
+    }
     next_of(rest.len(), record_in(rest))
+}
+
+// The 16 octets before a body that stand at a place; zeroes for what is not there.
+pub fn record_at(s: &[u8], at: usize) -> Record
+    ensures { λ r. ⌜ r ≡ recordFrom (drop at (now (s .entry))) ⌝ }
+{
+    record_in(from_place(s, at))
 }
 
 pub fn is_whole(n: Next) -> bool
@@ -125,27 +140,11 @@ pub fn is_whole(n: Next) -> bool
     }
 }
 
-// The octets of a whole record.
-pub fn size_of(n: Next) -> usize
-    ensures { λ r. ⌜ r ≡ sizeOf n ⌝ }
+// The body of the record at a place; what is there of it.
+pub fn body_at(s: &[u8], at: usize, size: usize) -> &[u8]
+    ensures { λ r. ⌜ now r ≡ bodyIn (drop at (now (s .entry))) size ⌝ }
 {
-    match n {
-        Next::Whole(r) => 16 + r.size as usize,
-        Next::Broken => 0,
-        Next::Short => 0,
-        Next::End => 0,
-    }
-}
-
-// The body of the record that these octets start with; what is there of it.
-fn body_in(s: &[u8], size: usize) -> &[u8]
-    ensures { λ r. ⌜ now r ≡ bodyIn (now (s .entry)) size ⌝ }
-{
-    let rest = from_place(s, 16);
-    if rest.len() <= size {
-        return rest;
-    }
-    &rest[..size]
+    part(from_place(s, at), 16, size)
 }
 
 fn body_fits(octets: usize, marks: u8) -> bool
@@ -189,7 +188,7 @@ fn expected_in(kind: u16, b: &[u8]) -> MepId
 }
 
 // The settings that an open's body gives.
-fn settings_in(label: u32, b: &[u8]) -> Settings
+pub fn settings_in(label: u32, b: &[u8]) -> Settings
     ensures { λ r. ⌜ r ≡ settingsIn label (now (b .entry)) ⌝ }
 {
     let marks = get_u8(b, 34);
@@ -208,51 +207,4 @@ fn settings_in(label: u32, b: &[u8]) -> Settings
         followlink: marks % 2,
         followlock: marks / 2 % 2,
     }
-}
-
-// The request of a kind from 2 on.
-fn act_request(kind: u16, label: u32, body: &[u8], time: u64) -> Request
-    ensures { λ q. ⌜ q ≡ requestOn label (actOf kind (now (body .entry)) time) ⌝ }
-{
-    if kind == 2 {
-        return Request::Close(label, time);
-    }
-    if kind == 3 {
-        return Request::Lock(label, time);
-    }
-    if kind == 4 {
-        return Request::Unlock(label, time);
-    }
-    if kind == 5 {
-        return step::receive_request(label, body, time);
-    }
-    if kind == 6 {
-        return Request::ReportOn(label);
-    }
-    if kind == 7 {
-        return Request::WriteCc(label, 28);
-    }
-    Request::WriteCv(label, 44)
-}
-
-fn request_of(r: Record, body: &[u8]) -> Request
-    ensures { λ q. ⌜ q ≡ requestOf (callOf r (now (body .entry))) ⌝ }
-{
-    if r.kind == 0 {
-        return Request::Tick(r.time);
-    }
-    if r.kind == 1 {
-        return Request::Open(settings_in(r.label, body), r.time);
-    }
-    act_request(r.kind, r.label, body, r.time)
-}
-
-// The request of the record at a place. Where no whole record stands it is what the octets that are
-// there give.
-pub fn request_at(s: &[u8], at: usize) -> Request
-    ensures { λ r. ⌜ r ≡ requestOf (callIn (drop at (now (s .entry)))) ⌝ }
-{
-    let rest = from_place(s, at);
-    let r = record_in(rest);
-    request_of(r, body_in(rest, r.size as usize))
 }
