@@ -1,21 +1,33 @@
--- The feed's loop with no model: what a test that there is more says, and one turn of the definition.
+-- The feed's loop with no model: what a test that there is more says, one turn of the definition, and that 26 is asked once.
 -- Assumes nothing.
 use mathlib.Core.Path.{_≡_, refl, sym, ap, subst, _∙_}
 use mathlib.Core.Bool.{Bool, true, false, not, cond, _&&_}
-use Prim.Native.Nat.{ℕ, zero, suc, _≤_, _+_, _-_}
+use Prim.Native.Nat.{ℕ, zero, suc, _^_, _<_, _≤_, _+_, _-_}
 use mathlib.Core.List.{List}
 use native.Mathlib.Omega.{arith}
 use lib.Dec.{T as Holds, eqb, ltb, leb, nltb→le}
-use lib.ListN.{length, drop, length-drop}
+use lib.ListN.{length, drop, replicate, length-drop}
+use borrow.Author.Tests.{eqb-true, eqb-false, ne-eqb, le-ltb, leb-true, leb-false}
+use Rattle.octets.specs.Writing.{writing}
+use Rattle.octets.proofs.Writing.{refused}
+use Rattle.rules.specs.Calls.{Act, Close, Lock, Unlock, Receive, ReportOn, WriteCc, WriteCv, Call, Tick, Open, On, Said, reporting, writes}
+use Rattle.rules.proofs.Bools.{split, no-way}
 use Rattle.session.specs.declared.Session.{Session}
+use Rattle.table.specs.declared.Head.{Head}
+use Rattle.table.specs.Table.{Table, inOrder, answer, next}
+use Rattle.table.proofs.Order.{order-same}
 use Rattle.step.specs.declared.Outcome.{Outcome}
-use Rattle.step.specs.declared.Request.{Request}
-use Rattle.step.specs.Stepping.{rowStep, rowAfter}
+use Rattle.step.specs.Stepping.{tableOf, Obeyed}
+use Rattle.step.specs.Saying.{saidOf, Steps}
 use Rattle.capture.specs.declared.Record.{Record}
 use Rattle.capture.specs.declared.Next.the-variants.{Whole, Broken, Short, End}
-use Rattle.capture.specs.Records.{recordIn, nextIn, nextOf, isBroken, isWhole, sizeOf}
+use Rattle.capture.specs.Records.{recordIn, recordFrom, bodyIn, actOf, callOf, callIn, nextIn, nextOf, isBroken, isWhole, sizeOf}
+use Rattle.capture.specs.Lines.{line, numbered, plainLine, reportLine, octetsLine}
+use Rattle.capture.specs.Typing.{Put, typed}
+use Rattle.capture.proofs.LineSaid.{isPlain, line-refused, line-plain, line-report, line-cc, line-cv, written}
 use Rattle.row.proofs.Branches.{held-is, failed-is}
-use Rattle.feed.specs.Feeding.{longest, moreOf, Answered, answered, Flow, requestIn, turnOf, goOn, feedOf}
+use Rattle.feed.specs.Feeding.{longest, moreOf, headOf, Flow, callNext, turnOf, goOn, feedOf}
+use Rattle.feed.specs.Calling.{bodyAt, Whole as Lengths, Calls, lineBy, behindOf, Answered, answered}
 use Rattle.feed.specs.declared.Fed.{Fed}
 
 both : (t u : Bool) → Holds (t && u) → Holds t × Holds u
@@ -23,20 +35,21 @@ both true u h = (tt, h)
 both false u h = absurd h
 
 -- ---- a whole record has 16 octets at least, and they stand in the input
-by-tests : (a b c d : Bool) (r : Record) → Holds (isWhole (cond a End (cond b Short (cond c Broken (cond d Short (Whole r)))))) → Holds (not b) × (sizeOf (cond a End (cond b Short (cond c Broken (cond d Short (Whole r))))) ≡ 16 + r .size)
+by-tests : (a b c d : Bool) (r : Record) → Holds (isWhole (cond a End (cond b Short (cond c Broken (cond d Short (Whole r))))))
+    → (Holds (not b) × Holds (not d)) × (sizeOf (cond a End (cond b Short (cond c Broken (cond d Short (Whole r))))) ≡ 16 + r .size)
 by-tests true b c d r h = absurd h
 by-tests false true c d r h = absurd h
 by-tests false false true d r h = absurd h
 by-tests false false false true r h = absurd h
-by-tests false false false false r h = (tt, refl)
+by-tests false false false false r h = ((tt, tt), refl)
 
-whole-of : (n : ℕ) (r : Record) → Holds (isWhole (nextOf n r)) → (16 ≤ n) × (16 ≤ sizeOf (nextOf n r))
-whole-of n r h = (nltb→le n 16 (k .0), subst (λ (m : ℕ). 16 ≤ m) (sym (k .1)) (omega arith))
+whole-of : (n : ℕ) (r : Record) → Holds (isWhole (nextOf n r)) → ((16 ≤ n) × (16 + r .size ≤ n)) × (sizeOf (nextOf n r) ≡ 16 + r .size)
+whole-of n r h = ((nltb→le n 16 (k .0 .0), nltb→le n (16 + r .size) (k .0 .1)), k .1)
   where
-    k : Holds (not (ltb n 16)) × (sizeOf (nextOf n r) ≡ 16 + r .size)
+    k : (Holds (not (ltb n 16)) × Holds (not (ltb n (16 + r .size)))) × (sizeOf (nextOf n r) ≡ 16 + r .size)
     k = by-tests (eqb n 0) (ltb n 16) (isBroken (r .kind) (r .size)) (ltb n (16 + r .size)) r h
 
-whole-in : (s : List ℕ) → Holds (isWhole (nextIn s)) → (16 ≤ length s) × (16 ≤ sizeOf (nextIn s))
+whole-in : (s : List ℕ) → Holds (isWhole (nextIn s)) → ((16 ≤ length s) × (16 + recordIn s .size ≤ length s)) × (sizeOf (nextIn s) ≡ 16 + recordIn s .size)
 unfolding nextIn
 whole-in s h = whole-of (length s) (recordIn s) h
 
@@ -44,41 +57,190 @@ stands : (f : Fed) (input : List ℕ) (room : ℕ) → Holds (moreOf f input roo
 unfolding moreOf
 stands f input room h = both (isWhole (nextIn (drop (f .used) input))) (leb longest (room - f .written)) h .0
 
-pub more-says : (f : Fed) (input : List ℕ) (room : ℕ) → Holds (moreOf f input room) → (f .used + 16 ≤ length input) × (16 ≤ sizeOf (nextIn (drop (f .used) input)))
-more-says f input room h = (omega (arith, l), k .1)
-  where
-    k : (16 ≤ length (drop (f .used) input)) × (16 ≤ sizeOf (nextIn (drop (f .used) input)))
-    k = whole-in (drop (f .used) input) (stands f input room h)
+module _ (f : Fed) (input : List ℕ) (room : ℕ) (h : Holds (moreOf f input room)) where
+  abbrev s : List ℕ
+  s = drop (f .used) input
 
-    l : 16 ≤ length input - f .used
-    l = subst (λ (m : ℕ). 16 ≤ m) (length-drop (f .used) input) (k .0)
+  in-full : ((16 ≤ length s) × (16 + recordIn s .size ≤ length s)) × (sizeOf (nextIn s) ≡ 16 + recordIn s .size)
+  in-full = whole-in s (stands f input room h)
 
--- how far the input is used then
-pub used-after : (out : List ℕ) (f : Fed) (input : List ℕ) (q : Request) (o : Outcome) (g : Fed) (ps : List ℕ) → record { fed = g; out = ps } ≡ answered out f input q o → g .used ≡ f .used + sizeOf (nextIn (drop (f .used) input))
-unfolding answered
-used-after out f input q o g ps e = ap (λ (y : Answered). y .fed .used) e
+  -- what is read at its place is the record
+  pub record-read : recordFrom s ≡ recordIn s
+  record-read = rw (le-ltb (length s) 16 (in-full .0 .0))
+
+  pub more-says : (f .used + 16 ≤ length input) × (16 ≤ sizeOf (nextIn s))
+  more-says = (omega (arith, in-full .0 .0, length-drop (f .used) input), omega (arith, in-full .1))
+
+  behind-is : behindOf (length input) (f .used) (recordIn s .size) ≡ f .used + sizeOf (nextIn s)
+  behind-is =
+      let no : ltb (length input - f .used) (16 + recordIn s .size) ≡ false = le-ltb (length input - f .used) (16 + recordIn s .size) (omega (arith, in-full .0 .1, length-drop (f .used) input)) in
+      rw (no, in-full .1)
+
+-- ---- the line of an outcome is that of what is said
+module _ (number : ℕ) (o : Outcome) (n : Lengths o) where
+  plain-said : (c : Call) → isPlain c ≡ true → saidOf c o .number ≡ o .answer
+  plain-said (Tick u) p = refl
+  plain-said (Open g u) p = refl
+  plain-said (On l (Close u)) p = refl
+  plain-said (On l (Lock u)) p = refl
+  plain-said (On l (Unlock u)) p = refl
+  plain-said (On l (Receive m u)) p = refl
+  plain-said (On l ReportOn) p = no-way p refl
+  plain-said (On l (WriteCc b)) p = no-way p refl
+  plain-said (On l (WriteCv b)) p = no-way p refl
+
+  -- a refusal
+  refused-said : (c : Call) → eqb (o .answer) 0 ≡ false → saidOf c o .number ≡ o .answer
+  refused-said (Tick u) z = refl
+  refused-said (Open g u) z = refl
+  refused-said (On l (Close u)) z = refl
+  refused-said (On l (Lock u)) z = refl
+  refused-said (On l (Unlock u)) z = refl
+  refused-said (On l (Receive m u)) z = refl
+  refused-said (On l ReportOn) z = rw z
+  refused-said (On l (WriteCc b)) z = ap (λ (a : Said). a .number) (ap writes (refused (o .told .cc) b (o .answer) (eqb-false (o .answer) 0 z)))
+  refused-said (On l (WriteCv b)) z = ap (λ (a : Said). a .number) (ap writes (refused (o .told .cv) b (o .answer) (eqb-false (o .answer) 0 z)))
+
+  -- a refusal is its number
+  refused-line : (c : Call) → eqb (o .answer) 0 ≡ false → plainLine number (o .answer) ≡ line number c (saidOf c o)
+  refused-line c z =
+      let k = refused-said c z in
+      sym (line-refused number c (saidOf c o) (λ e. eqb-false (o .answer) 0 z (sym k ∙ e)) ∙ ap (plainLine number) k)
+
+  plain-line : (c : Call) → isPlain c ≡ true → plainLine number (o .answer) ≡ line number c (saidOf c o)
+  plain-line c p = sym (line-plain number c (saidOf c o) p ∙ ap (plainLine number) (plain-said c p))
+
+  -- the octets of an accepted write are the whole buffer
+  cc-said : (l : ℕ) → eqb (o .answer) 0 ≡ true → saidOf (On l (WriteCc (replicate 28 0))) o ≡ writes (record { answer = 0; buffer = o .told .cc })
+  cc-said l z = ap writes (ap (λ (k : ℕ). writing k (o .told .cc) (replicate 28 0)) (eqb-true (o .answer) 0 z) ∙ written (o .told .cc) (replicate 28 0) (sym (n .0)))
+
+  cv-said : (l : ℕ) → eqb (o .answer) 0 ≡ true → saidOf (On l (WriteCv (replicate 44 0))) o ≡ writes (record { answer = 0; buffer = o .told .cv })
+  cv-said l z = ap writes (ap (λ (k : ℕ). writing k (o .told .cv) (replicate 44 0)) (eqb-true (o .answer) 0 z) ∙ written (o .told .cv) (replicate 44 0) (sym (n .1)))
+
+  report-line : (l : ℕ) → eqb (o .answer) 0 ≡ true → reportLine number (o .told .report) ≡ line number (On l ReportOn) (saidOf (On l ReportOn) o)
+  report-line l z =
+      let a : saidOf (On l ReportOn) o ≡ reporting (o .told .report) = rw z in
+      sym (ap (line number (On l ReportOn)) a ∙ line-report number l (reporting (o .told .report)) refl)
+
+  cc-line : (l : ℕ) → eqb (o .answer) 0 ≡ true → octetsLine number (o .told .cc) ≡ line number (On l (WriteCc (replicate 28 0))) (saidOf (On l (WriteCc (replicate 28 0))) o)
+  cc-line l z =
+      let c = On l (WriteCc (replicate 28 0)) in
+      sym (ap (line number c) (cc-said l z) ∙ line-cc number l (writes (record { answer = 0; buffer = o .told .cc })) refl (replicate 28 0))
+
+  cv-line : (l : ℕ) → eqb (o .answer) 0 ≡ true → octetsLine number (o .told .cv) ≡ line number (On l (WriteCv (replicate 44 0))) (saidOf (On l (WriteCv (replicate 44 0))) o)
+  cv-line l z =
+      let c = On l (WriteCv (replicate 44 0)) in
+      sym (ap (line number c) (cv-said l z) ∙ line-cv number l (writes (record { answer = 0; buffer = o .told .cv })) refl (replicate 44 0))
+
+  module _ (r : Record) (body : List ℕ) where
+    abbrev c : Call
+    c = callOf r body
+
+    -- kinds below 6 tell nothing
+    plain-kind : leb 6 (r .kind) ≡ false → isPlain c ≡ true
+    unfolding callOf
+    plain-kind k =
+        let low : r .kind < 6 = leb-false 6 (r .kind) k in
+        split (eqb (r .kind) 0)
+        (λ a. rw a)
+        (λ a. split (eqb (r .kind) 1)
+        (λ b. rw (a, b))
+        (λ b. split (eqb (r .kind) 2)
+        (λ d. rw (a, b, d))
+        (λ d. split (eqb (r .kind) 3)
+        (λ e. rw (a, b, d, e))
+        (λ e. split (eqb (r .kind) 4)
+        (λ f. rw (a, b, d, e, f))
+        (λ f. split (eqb (r .kind) 5)
+        (λ g. rw (a, b, d, e, f, g))
+        (λ g. absurd (omega (arith, low, eqb-false (r .kind) 0 a, eqb-false (r .kind) 1 b, eqb-false (r .kind) 2 d, eqb-false (r .kind) 3 e, eqb-false (r .kind) 4 f, eqb-false (r .kind) 5 g))))))))
+
+    above : (i : ℕ) → i < 6 → leb 6 (r .kind) ≡ true → eqb (r .kind) i ≡ false
+    above i l k = ne-eqb (r .kind) i (λ e. omega (arith, l, leb-true 6 (r .kind) k, e))
+
+    told-kind : leb 6 (r .kind) ≡ true → c ≡ On (r .label) (cond (eqb (r .kind) 6) ReportOn (cond (eqb (r .kind) 7) (WriteCc (replicate 28 0)) (WriteCv (replicate 44 0))))
+    unfolding callOf
+    told-kind k = rw (above 0 (omega arith) k, above 1 (omega arith) k, above 2 (omega arith) k, above 3 (omega arith) k, above 4 (omega arith) k, above 5 (omega arith) k)
+
+    pub line-is : lineBy number (r .kind) o ≡ line number c (saidOf c o)
+    unfolding lineBy
+    line-is =
+        split (eqb (o .answer) 0)
+        (λ z. split (leb 6 (r .kind))
+        (λ k. rw (z, k, told-kind k)
+        (split (eqb (r .kind) 6)
+        (λ a. rw a (report-line (r .label) z))
+        (λ a. split (eqb (r .kind) 7)
+        (λ b. rw (a, b) (cc-line (r .label) z))
+        (λ b. rw (a, b) (cv-line (r .label) z)))))
+        (λ k. rw (z, k) (plain-line c (plain-kind k))))
+        (λ z. rw z (refused-line c z))
 
 -- ---- one turn of the definition
 abbrev pub flow : List Session → Fed → List ℕ → Flow
 flow row f out = record { row = row; fed = f; out = out }
 
-pub is-turn : (input : List ℕ) (row : List Session) (f : Fed) (out : List ℕ) (c : Request) → c ≡ requestIn input f → (r : Outcome) (zs : List Session) → (r ≡ rowStep row (f .head) c .outcome) × (zs ≡ rowAfter row (f .head) c)
-    → (g : Fed) (ps : List ℕ) → record { fed = g; out = ps } ≡ answered out f input c r → flow zs g ps ≡ turnOf input (flow row f out)
+-- how far it is fed, by its parts
+abbrev fed-by : Fed → Head → ℕ → ℕ → Fed
+fed-by f head used written = record { head = head; number = numbered (f .number); used = used; written = written }
+
+abbrev put-by : List ℕ → Fed → Table → Call → Put
+put-by out f t c = typed (record { buffer = out; at = f .written }) (line (numbered (f .number)) c (answer t c))
+
+-- what comes of it, from the step
+turn-by : (input : List ℕ) (row : List Session) (f : Fed) (out : List ℕ) (r : Record) → r ≡ recordIn (drop (f .used) input) → (o : Outcome) (zs : List Session)
+    → Steps row (f .head) (callOf r (bodyAt input f r)) (record { outcome = o; row = zs }) → Lengths o
+    → (g : Fed) (ps : List ℕ) → record { fed = g; out = ps } ≡ answered out f (length input) r o → Holds (moreOf f input (length out)) → flow zs g ps ≡ turnOf input (flow row f out)
+unfolding turnOf answered callIn
+turn-by input row f out r e o zs w n g ps a h =
+    let s = drop (f .used) input in
+    let t = tableOf row (f .head) in
+    let c = callOf r (bodyAt input f r) in
+    let same : c ≡ callNext input f = ap (λ (q : Record). callOf q (bodyIn s (q .size))) e in
+    let told : lineBy (numbered (f .number)) (r .kind) o ≡ line (numbered (f .number)) c (answer t c) = line-is (numbered (f .number)) o n r (bodyAt input f r) ∙ ap (line (numbered (f .number)) c) (w .0) in
+    let used : behindOf (length input) (f .used) (r .size) ≡ f .used + sizeOf (nextIn s) = ap (λ (q : Record). behindOf (length input) (f .used) (q .size)) e ∙ behind-is f input (length out) h in
+    ap (λ (y : Answered). flow zs (y .fed) (y .out)) a
+    ∙ ap (λ (l : List ℕ). flow zs (fed-by f (o .head) (behindOf (length input) (f .used) (r .size)) (typed (record { buffer = out; at = f .written }) l .at)) (typed (record { buffer = out; at = f .written }) l .buffer)) told
+    ∙ ap (λ (u : ℕ). flow zs (fed-by f (o .head) u (put-by out f t c .at)) (put-by out f t c .buffer)) used
+    ∙ ap (λ (x : Table). flow (x .row) (fed-by f (headOf x) (f .used + sizeOf (nextIn s)) (put-by out f t c .at)) (put-by out f t c .buffer)) (w .1)
+    ∙ ap (λ (d : Call). flow (next t d .row) (fed-by f (headOf (next t d)) (f .used + sizeOf (nextIn s)) (put-by out f t d .at)) (put-by out f t d .buffer)) same
+
+-- a record, its call and its line are one turn
+pub is-turn : (input : List ℕ) (row : List Session) (f : Fed) (out : List ℕ) (sound : Bool) (r : Record) → r ≡ recordFrom (drop (f .used) input) → (o : Outcome) (zs : List Session) → Calls row f r input sound o zs
+    → (g : Fed) (ps : List ℕ) → record { fed = g; out = ps } ≡ answered out f (length input) r o
+    → sound ≡ inOrder (tableOf row (f .head)) → Holds (moreOf f input (length out)) → length input < 2 ^ 64 → length row < 2 ^ 64 → flow zs g ps ≡ turnOf input (flow row f out)
+is-turn input row f out sound r e o zs called g ps a mark h short long =
+    let w = called mark (more-says f input (length out) h .0) short long in
+    turn-by input row f out r (e ∙ record-read f input (length out) h) o zs (w .0) (w .1) g ps a h
+
+-- octets are taken, whatever is known of the row
+pub turn-takes : (input : List ℕ) (f : Fed) (out : List ℕ) (r : Record) → r ≡ recordFrom (drop (f .used) input) → (o : Outcome) (g : Fed) (ps : List ℕ) → record { fed = g; out = ps } ≡ answered out f (length input) r o
+    → Holds (moreOf f input (length out)) → f .used < g .used
+unfolding answered
+turn-takes input f out r e o g ps a h =
+    let s = drop (f .used) input in
+    let used : g .used ≡ f .used + sizeOf (nextIn s) = ap (λ (y : Answered). y .fed .used) a ∙ ap (λ (q : Record). behindOf (length input) (f .used) (q .size)) (e ∙ record-read f input (length out) h) ∙ behind-is f input (length out) h in
+    omega (arith, used, more-says f input (length out) h .1)
+
+-- ---- 26 is asked once: the mark of a row is its mark after a turn
+pub turn-mark : (input : List ℕ) (x : Flow) → inOrder (tableOf (turnOf input x .row) (turnOf input x .fed .head)) ≡ inOrder (tableOf (x .row) (x .fed .head))
 unfolding turnOf
-is-turn input row f out c e₁ r zs e₂ g ps e₃ =
-    ap (λ (z : List Session). flow z g ps) (e₂ .1) ∙ ap (λ (y : Answered). flow (rowAfter row (f .head) c) (y .fed) (y .out)) e₃
-    ∙ ap (λ (o : Outcome). flow (rowAfter row (f .head) c) (answered out f input c o .fed) (answered out f input c o .out)) (e₂ .0)
-    ∙ ap (λ (u : Request). flow (rowAfter row (f .head) u) (answered out f input u (rowStep row (f .head) u .outcome) .fed) (answered out f input u (rowStep row (f .head) u .outcome) .out)) e₁
+turn-mark input x = order-same (tableOf (x .row) (x .fed .head)) (callNext input (x .fed))
+
+-- how far the input is used then
+pub turn-used : (input : List ℕ) (x : Flow) → turnOf input x .fed .used ≡ x .fed .used + sizeOf (nextIn (drop (x .fed .used) input))
+unfolding turnOf
+turn-used input x = refl
 
 -- where there is no more, nothing more is done; where there is, one record
-pub stops : (input : List ℕ) (n : ℕ) (row : List Session) (f : Fed) (out : List ℕ) → Holds (not (moreOf f input (length out))) → goOn input n (flow row f out) ≡ flow row f out
+pub stops : (input : List ℕ) (n : ℕ) (x : Flow) → Holds (not (moreOf (x .fed) input (length (x .out)))) → goOn input n x ≡ x
 unfolding goOn
-stops input zero row f out h = refl
-stops input (suc n) row f out h = ap (λ (t : Bool). cond t (goOn input n (turnOf input (flow row f out))) (flow row f out)) (failed-is (moreOf f input (length out)) h)
+stops input zero x h = refl
+stops input (suc n) x h = ap (λ (t : Bool). cond t (goOn input n (turnOf input x)) x) (failed-is (moreOf (x .fed) input (length (x .out))) h)
 
-pub goes-on : (input : List ℕ) (n : ℕ) (row : List Session) (f : Fed) (out : List ℕ) → Holds (moreOf f input (length out)) → goOn input (suc n) (flow row f out) ≡ goOn input n (turnOf input (flow row f out))
+pub goes-on : (input : List ℕ) (n : ℕ) (x : Flow) → Holds (moreOf (x .fed) input (length (x .out))) → goOn input (suc n) x ≡ goOn input n (turnOf input x)
 unfolding goOn
-goes-on input n row f out h = ap (λ (t : Bool). cond t (goOn input n (turnOf input (flow row f out))) (flow row f out)) (held-is (moreOf f input (length out)) h)
+goes-on input n x h = ap (λ (t : Bool). cond t (goOn input n (turnOf input x)) x) (held-is (moreOf (x .fed) input (length (x .out))) h)
 
 pub begins : (row : List Session) (f : Fed) (input out : List ℕ) → goOn input (length input) (flow row f out) ≡ feedOf row f input out
 unfolding feedOf

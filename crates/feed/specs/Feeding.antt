@@ -1,19 +1,18 @@
--- A piece of a capture fed to a table: as many whole records as there are and lines as fit. This is what the code is proved to do.
+-- A piece of a capture fed to a table: as many whole records as there are and lines as fit. Each record is one call, and its line tells what the table says to it.
 -- Assumes nothing.
 use Prim.Native.Nat.{ℕ, zero, suc, _+_, _-_}
 use mathlib.Core.Bool.{Bool, cond, _&&_}
 use mathlib.Core.List.{List}
 use lib.Dec.{leb}
 use lib.ListN.{length, drop}
+use Rattle.rules.specs.Calls.{Call}
 use Rattle.session.specs.declared.Session.{Session}
 use Rattle.table.specs.declared.Head.{Head}
-use Rattle.step.specs.declared.Outcome.{Outcome}
-use Rattle.step.specs.declared.Request.{Request}
-use Rattle.step.specs.Requests.{requestOf}
-use Rattle.step.specs.Stepping.{rowStep, rowAfter}
+use Rattle.table.specs.Table.{Table, answer, next}
+use Rattle.step.specs.Stepping.{tableOf}
 use Rattle.capture.specs.Records.{nextIn, isWhole, sizeOf, callIn}
-use Rattle.capture.specs.Lines.{numbered}
-use Rattle.capture.specs.Typing.{typed, lineFor}
+use Rattle.capture.specs.Lines.{line, numbered}
+use Rattle.capture.specs.Typing.{typed}
 use Rattle.feed.specs.declared.Fed.{Fed}
 
 -- no line is longer
@@ -24,18 +23,9 @@ longest = 160
 unfoldable pub moreOf : Fed → List ℕ → ℕ → Bool
 moreOf f input room = isWhole (nextIn (drop (f .used) input)) && leb longest (room - f .written)
 
--- what is fed after a request, and the output
-pub record Answered : Type 0 where
-  pub fed : Fed
-  pub out : List ℕ
-
-unfoldable pub answered : List ℕ → Fed → List ℕ → Request → Outcome → Answered
-answered out f input q o =
-    let p = typed (record { buffer = out; at = f .written }) (lineFor (numbered (f .number)) q o) in
-    record {
-      fed = record { head = o .head; number = numbered (f .number); used = f .used + sizeOf (nextIn (drop (f .used) input)); written = p .at };
-      out = p .buffer;
-    }
+-- clock and set of a table
+abbrev pub headOf : Table → Head
+headOf t = record { clock = t .clock; occupied = t .occupied }
 
 -- the row, how far it is fed, and the output
 pub record Flow : Type 0 where
@@ -43,15 +33,22 @@ pub record Flow : Type 0 where
   pub fed : Fed
   pub out : List ℕ
 
-abbrev pub requestIn : List ℕ → Fed → Request
-requestIn input f = requestOf (callIn (drop (f .used) input))
+-- the call of the record that stands next
+abbrev pub callNext : List ℕ → Fed → Call
+callNext input f = callIn (drop (f .used) input)
 
--- one record more
+-- one record more: the table's step, and the line of what it says
 unfoldable pub turnOf : List ℕ → Flow → Flow
 turnOf input x =
-    let q = requestIn input (x .fed) in
-    let a = answered (x .out) (x .fed) input q (rowStep (x .row) (x .fed .head) q .outcome) in
-    record { row = rowAfter (x .row) (x .fed .head) q; fed = a .fed; out = a .out }
+    let f = x .fed in
+    let t = tableOf (x .row) (f .head) in
+    let c = callNext input f in
+    let p = typed (record { buffer = x .out; at = f .written }) (line (numbered (f .number)) c (answer t c)) in
+    record {
+      row = next t c .row;
+      fed = record { head = headOf (next t c); number = numbered (f .number); used = f .used + sizeOf (nextIn (drop (f .used) input)); written = p .at };
+      out = p .buffer;
+    }
 
 -- at most n records more. Each takes octets of the input, so its length is enough for n
 unfoldable pub goOn : List ℕ → ℕ → Flow → Flow

@@ -1,18 +1,24 @@
-// One record of the feed: whether it is there, and its answer.
+// One record of the feed: whether it is there, and its line.
 use crate::Fed;
+use capture::Record;
 use capture::is_whole;
 use capture::next_record;
-use capture::put_line;
-use capture::size_of;
+use capture::put_plain;
+use capture::put_reported;
+use capture::put_written;
+use capture::record_at;
+use octets::both;
 use step::Outcome;
-use step::Request;
+use step::Told;
 ghost use mathlib.Core.Path.{_≡_};
-ghost use Prim.Native.Nat.{_+_, _-_};
+ghost use Prim.Native.Nat.{_-_};
 ghost use lib.Dec.{leb};
-ghost use lib.ListN.{drop};
-ghost use Rattle.capture.specs.Records.{nextIn, sizeOf};
+ghost use lib.ListN.{length, drop};
+ghost use Rattle.capture.specs.Records.{recordFrom};
 ghost use Rattle.capture.specs.Lines.{numbered};
-ghost use Rattle.feed.specs.Feeding.{longest, moreOf, answered};
+ghost use Rattle.capture.specs.Typing.{typed};
+ghost use Rattle.feed.specs.Feeding.{longest, moreOf};
+ghost use Rattle.feed.specs.Calling.{tells, toldLine, lineBy, behindOf, answered};
 
 fn has_room(room: usize, written: usize) -> bool
     ensures { λ r. ⌜ r ≡ leb longest (room - written) ⌝ }
@@ -33,18 +39,25 @@ pub fn more(f: Fed, input: &[u8], room: usize) -> bool
     false
 }
 
-// The place behind the record at a place; that place where no whole one stands.
-fn behind(input: &[u8], at: usize) -> usize
-    ensures { λ r. ⌜ r ≡ at + sizeOf (nextIn (drop at (now (input .entry)))) ⌝ }
+// The record that stands next.
+pub fn record_next(input: &[u8], f: Fed) -> Record
+    ensures { λ r. ⌜ r ≡ recordFrom (drop (f .used) (now (input .entry))) ⌝ }
 {
-    let size = size_of(next_record(input, at));
-    if input.len() < at {
-        return at;
+    record_at(input, f.used)
+}
+
+// The place behind a record; its own where it does not stand whole in so many octets.
+fn behind(octets: usize, used: usize, size: u16) -> usize
+    ensures { λ r. ⌜ r ≡ behindOf octets used size ⌝ }
+{
+    if octets < used {
+        return used;
     }
-    if input.len() - at < size {
-        return at;
+    let all = 16 + size as usize;
+    if octets - used < all {
+        return used;
     }
-    at + size
+    used + all
 }
 
 fn number_after(n: u64) -> u64
@@ -56,14 +69,48 @@ fn number_after(n: u64) -> u64
     n
 }
 
+// An accepted report or write tells something.
+fn is_told(kind: u16, answer: u32) -> bool
+    ensures { λ t. ⌜ t ≡ tells kind answer ⌝ }
+{
+    both(answer == 0, 6 <= kind)
+}
+
+// Kind 6 tells its report, 7 and 8 their octets.
+fn put_told(out: &mut [u8], at: usize, number: u64, kind: u16, told: Told) -> usize
+    ensures { λ n. ⌜ record { buffer = now (out .exit); at = n } ≡ typed (record { buffer = now (out .entry); at = at }) (toldLine number kind told) ⌝ }
+{
+    if kind == 6 {
+        let report = told.report;
+        return put_reported(out, at, number, report);
+    }
+    if kind == 7 {
+        let octets = told.cc;
+        return put_written(out, at, number, &octets);
+    }
+    let octets = told.cv;
+    put_written(out, at, number, &octets)
+}
+
+// The line of an outcome, by the record's kind.
+fn put_by(out: &mut [u8], at: usize, number: u64, kind: u16, o: Outcome) -> usize
+    ensures { λ n. ⌜ record { buffer = now (out .exit); at = n } ≡ typed (record { buffer = now (out .entry); at = at }) (lineBy number kind o) ⌝ }
+{
+    if is_told(kind, o.answer) {
+        let told = o.told;
+        return put_told(out, at, number, kind, told);
+    }
+    put_plain(out, at, number, o.answer)
+}
+
 // The line for a record's outcome, and how far the table is fed then.
-pub fn answer_line(out: &mut [u8], f: Fed, input: &[u8], q: Request, o: Outcome) -> Fed
-    ensures { λ r. ⌜ record { fed = r; out = now (out .exit) } ≡ answered (now (out .entry)) f (now (input .entry)) q o ⌝ }
+pub fn answer_line(out: &mut [u8], f: Fed, input: &[u8], r: Record, o: Outcome) -> Fed
+    ensures { λ g. ⌜ record { fed = g; out = now (out .exit) } ≡ answered (now (out .entry)) f (length (now (input .entry))) r o ⌝ }
 {
     let number = number_after(f.number);
-    let used = behind(input, f.used);
+    let used = behind(input.len(), f.used, r.size);
     let head = o.head;
-    let written = put_line(out, f.written, number, q, o);
+    let written = put_by(out, f.written, number, r.kind, o);
     Fed {
         head: head,
         number: number,

@@ -1,1 +1,2 @@
+pub mod FeedingPlain
 pub mod SessionArray

@@ -1,42 +1,21 @@
-// A table by value: a row of 64 records of its own, and the head. It is lent, call by call, to the
-// call on the row.
-use row::obey;
+// A table by value, with a row of 64 records of its own, lent piece by piece to the feed.
+use feed::Fed;
+use feed::feed_row;
 use session::Session;
-use step::Outcome;
-use step::Request;
-use table::Head;
 ghost use mathlib.Core.Path.{_≡_};
-ghost use lib.ListN.{replicate};
-ghost use Rattle.table.specs.Table as Table;
-ghost use Rattle.step.specs.Stepping.{rowStep, rowAfter};
+ghost use Rattle.feed.specs.Feeding.{feedOf};
 
-pub struct OwnTable {
+// A table by value: its own row, and how far it is fed.
+pub struct Feeding {
     pub row: [Session; 64],
-    pub head: Head,
+    pub fed: Fed,
 }
 
-// What a request leaves, and its outcome.
-pub struct Played {
-    pub table: OwnTable,
-    pub outcome: Outcome,
-}
-
-// An empty table at clock 0.
-pub fn own_table() -> OwnTable
-    ensures { λ t. ⌜ t ≡ record { row = replicate 64 Table.absent; head = record { clock = 0; occupied = 0 } } ⌝ }
-{
-    let r = table::absent();
-    let row = [r; 64];
-    let head = table::first_head();
-    OwnTable { row, head }
-}
-
-// The call on a table's own row.
-pub fn obey_own(t: OwnTable, q: Request) -> Played
-    ensures { λ p. ⌜ (p .outcome ≡ rowStep (t .row) (t .head) q .outcome) × ((p .table .row ≡ rowAfter (t .row) (t .head) q) × (p .table .head ≡ rowStep (t .row) (t .head) q .outcome .head)) ⌝ }
+// The feed of a table's own row.
+pub fn feed(t: Feeding, input: &[u8], out: &mut [u8]) -> Feeding
+    ensures { λ r. ⌜ record { row = r .row; fed = r .fed; out = now (out .exit) } ≡ feedOf (t .row) (t .fed) (now (input .entry)) (now (out .entry)) ⌝ }
 {
     let mut row = t.row;
-    let o = obey(&mut row, t.head, q);
-    let table = OwnTable { row, head: o.head };
-    Played { table, outcome: o }
+    let fed = feed_row(&mut row, t.fed, input, out);
+    Feeding { row, fed }
 }

@@ -1,4 +1,4 @@
--- `feed::feed` meets its contract: a walk of its MIR, by hand. The row is copied out of the struct into a local array, which is lent for the call of `feed_row`, at a lifetime that the walk makes, and comes back at the last list; the input and the output are passed on. All that the proof knows of `feed_row` is that it meets its contract.
+-- `owner::feed` meets its contract: a walk of its MIR, by hand. The row is copied out of the struct into a local array, which is lent for the call of `feed_row`, at a lifetime that the walk makes, and comes back at the last list; the input and the output are passed on. All that the proof knows of `feed_row` is that it meets its contract.
 -- Assumes nothing.
 use mathlib.Core.Path.{_≡_, refl, sym}
 use native.Mathlib.Omega.{arith}
@@ -49,25 +49,25 @@ use Rattle.row.proofs.RecordOfRow.{RowRecord}
 use Rattle.row.proofs.Callee.{callee-answers}
 use Rattle.row.proofs.Locals.{frees-stored}
 use Rattle.row.proofs.ByWalk.{meets-by-walk}
-use Rattle.row.proofs.TypeParts.{name-of, fields-of}
+use Rattle.row.proofs.TypeParts.{name-of, fields-of, place-in}
 use Rattle.row.proofs.Plains.{at-v}
-use Rattle.owner.proofs.SessionArray.{rows-val, rows-are, are-rows, rows-typed, lent-out, got-back}
 use Rattle.feed.specs.Feeding.{Flow, feedOf}
 use Rattle.feed.specs.declared.Fed.{Fed}
-use Rattle.feed.specs.declared.Feeding.{Feeding}
-use Rattle.feed.proofs.Feeding as Feeding′
-use Rattle.feed.proofs.Feeding.Laws as Feeding″
+use Rattle.owner.specs.declared.Feeding.{Feeding}
+use Rattle.owner.proofs.Feeding as Feeding′
+use Rattle.owner.proofs.Feeding.Laws as Feeding″
 use Rattle.feed.proofs.FedPlain.{fedP}
-use Rattle.feed.proofs.FeedingPlain.{feedingP}
+use Rattle.owner.proofs.FeedingPlain.{feedingP}
+use Rattle.owner.proofs.SessionArray.{rows-val, rows-are, are-rows, rows-typed, lent-out, got-back}
 use Rattle.feed.proofs.feed_row as g
 use Rattle.feed.proofs.feed_row.Symbol as g-def
 use Rattle.feed.proofs.feed_row.Symbol.{name as #feed·feed-row}
 use Rattle.feed.proofs.feed_row.Met as g-thm
-use Rattle.feed.proofs.feed.Key.{name as #feed·feed}
-use Rattle.feed.proofs.feed as f
-use Rattle.feed.proofs.feed.Statement as stated
-use Rattle.feed.proofs.feed.Code as code
-use Rattle.feed.proofs.feed.Code.Mir as pieces
+use Rattle.owner.proofs.feed.Key.{name as #owner·feed}
+use Rattle.owner.proofs.feed as f
+use Rattle.owner.proofs.feed.Statement as stated
+use Rattle.owner.proofs.feed.Code as code
+use Rattle.owner.proofs.feed.Code.Mir as pieces
 
 abbrev stayed : Stays (f.ended .signature .params) (f.ended .kept)
 stayed = (stay-none (λ _. feedingP .T) yes, (stay-none-slice (0 ∷ []) tt (plain (λ _. u8)) yes, (gave-slice (1 ∷ []) tt (plain (λ _. u8)), tt)))
@@ -224,13 +224,13 @@ module _ {M : Type 1} (𝓤 : URA M) (H : Heap 𝓤) (A : Atoms 𝓤) (W : Given
         -- of what is owned at entry: the output, the input twice, and the tokens
         move ! (23 ∷ []) $ fsplit ! $ drop ! $ fsplit ! $ use1 W (‵ In ⊛ ‵ In) (shr-slice-copy 𝓤 H A W (named 0) κ₁ u8 .twice m (m-val ∷ [])) $ split ! $ move ! (2 ∷ []) $ fsplit ! $ move ! (1 ∷ []) $ drop ! $ move ! (25 ∷ []) $
         by ! (body C Λ fm known l₀ l₁ l₂ l₃ l₄ l₅ l₆ l₇ l₈ l₉ l₁₀ (spell pieces.table (pointee (feedingP .T .written))) (tyArray (spell pieces.table (pointee (RowRecord .written))) 64) (spell pieces.table (pointee (fedP .T .written))) (tyArray (pointee (RowRecord .written)) 64) (pointee (RowRecord .written))
-        (name-of (spell pieces.table (pointee (feedingP .T .written)))) (fields-of (spell pieces.table (pointee (feedingP .T .written)))) 11264 refl refl refl (feedingP .typed 𝓤 H A W) (rows-typed 𝓤 H A W 64) (fedP .typed 𝓤 H A W)))))))))))))
+        (name-of (spell pieces.table (pointee (feedingP .T .written)))) (fields-of (spell pieces.table (pointee (feedingP .T .written)))) (place-in (fields-of (spell pieces.table (pointee (feedingP .T .written)))) 1) refl refl refl (feedingP .typed 𝓤 H A W) (rows-typed 𝓤 H A W 64) (fedP .typed 𝓤 H A W)))))))))))))
 
 pub feed-spec : {M : Type 1} → stated.statement M
 unfolding code.routine tablesOf
 feed-spec 𝓤 H 𝓜 𝓖 𝓡 =
     entered 𝓤 H (tripleOf 𝓤 H (𝓖 .A) f.signature (f.spec 𝓤 H (𝓖 .A) (𝓜 .mem) (𝓡 .run)))
-    (tables 𝓤 H 𝓜 𝓡 code.env .C) (tables 𝓤 H 𝓜 𝓡 code.env .Λ) #feed·feed code.function (code.unfolded 𝓤 H 𝓜 𝓡)
+    (tables 𝓤 H 𝓜 𝓡 code.env .C) (tables 𝓤 H 𝓜 𝓡 code.env .Λ) #owner·feed code.function (code.unfolded 𝓤 H 𝓜 𝓡)
     (meets-by-walk 𝓤 H (𝓖 .A) (givenOf 𝓤 H 𝓜 𝓖) f.ended stayed (f.clauses 𝓤 H (𝓖 .A) (𝓜 .mem) (𝓡 .run)) code.function (tablesOf 𝓤 H 𝓜 (tables 𝓤 H 𝓜 𝓡 code.env))
     (goes-none 𝓤 H (𝓖 .A) (givenOf 𝓤 H 𝓜 𝓖) 2 (λ _. feedingP .T) yes (λ κs x f. refl), (goes-none-slice 𝓤 H (𝓖 .A) (givenOf 𝓤 H 𝓜 𝓖) 2 (0 ∷ []) tt (plain (λ _. u8)) yes, (goes-gave-slice 𝓤 H (𝓖 .A) (givenOf 𝓤 H 𝓜 𝓖) 2 1 tt (plain (λ _. u8)), tt)))
     (λ κs. ((λ x. feedingP .v x ∷ []), (slice-vals, (slice-vals, tt)))) (λ κs. (feedingP .tells, (shr-slice-tells (named 0) (κs .0) u8, (mut-slice-tells (named 1) (κs .1 .0) u8, tt))))

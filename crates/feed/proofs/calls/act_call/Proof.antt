@@ -1,0 +1,105 @@
+-- `feed::act_call` meets its contract: it has the shape of `PlaceWay.antt`, whose walk it cites.
+-- Assumes nothing.
+use Prim.Native.Nat.{ℕ}
+use mathlib.Core.Path.{_≡_, sym, ap, _∙_}
+use mathlib.Core.Bool.{Bool, true, false, cond}
+use mathlib.Core.List.{List}
+use lib.Dec.{eqb}
+use Rattle.session.specs.declared.Session.{Session}
+use Rattle.table.specs.declared.Head.{Head}
+use Rattle.scan.specs.declared.Summary.{Summary}
+use Rattle.step.specs.declared.Outcome.{Outcome}
+use Rattle.step.specs.declared.Arrival.{Arrival}
+use Rattle.step.specs.declared.Request.{Request}
+use Rattle.step.specs.Stepping.{Obeyed, obeyAt}
+use Rattle.step.specs.Arriving.{receiveAt}
+use Rattle.capture.specs.declared.Record.{Record}
+use Rattle.feed.specs.declared.Fed.{Fed}
+use Rattle.feed.specs.Calling.{seenAt, arrivalIn, requestIn, actAt}
+use mir.Syntax.{Ty}
+use mir.Table.{spell}
+use contract.Running.{givenOf, tables, tablesOf}
+use denote.Memory.{pointee}
+use denote.Triple.Spec.{tripleOf}
+use denote.Triple.Table.{entered, cited}
+use Rattle.row.proofs.Plains.{Plain, sessionP, u64P, boolP, arrivalP, summaryP, headP, requestP, outcomeP}
+use Rattle.feed.proofs.FedPlain.{fedP}
+use Rattle.feed.proofs.RecordPlain.{recordP}
+use Rattle.feed.proofs.PlaceWay as way
+use Rattle.feed.proofs.asking.is_received.Symbol as k1-def
+use Rattle.feed.proofs.asking.is_received.Symbol.{name as #feed·asking·is-received}
+use Rattle.feed.proofs.asking.is_received.Met as k1-thm
+use Rattle.feed.proofs.asking.arrival_in.Symbol as k2-def
+use Rattle.feed.proofs.asking.arrival_in.Symbol.{name as #feed·asking·arrival-in}
+use Rattle.feed.proofs.asking.arrival_in.Met as k2-thm
+use Rattle.row.proofs.receive_at.Symbol as k3-def
+use Rattle.row.proofs.receive_at.Symbol.{name as #row·receive-at}
+use Rattle.row.proofs.receive_at.Met as k3-thm
+use Rattle.feed.proofs.asking.seen_at.Symbol as k4-def
+use Rattle.feed.proofs.asking.seen_at.Symbol.{name as #feed·asking·seen-at}
+use Rattle.feed.proofs.asking.seen_at.Met as k4-thm
+use Rattle.feed.proofs.asking.head_of.Symbol as k5-def
+use Rattle.feed.proofs.asking.head_of.Symbol.{name as #feed·asking·head-of}
+use Rattle.feed.proofs.asking.head_of.Met as k5-thm
+use Rattle.feed.proofs.asking.request_in.Symbol as k6-def
+use Rattle.feed.proofs.asking.request_in.Symbol.{name as #feed·asking·request-in}
+use Rattle.feed.proofs.asking.request_in.Met as k6-thm
+use Rattle.row.proofs.obey_at.Symbol as k7-def
+use Rattle.row.proofs.obey_at.Symbol.{name as #row·obey-at}
+use Rattle.row.proofs.obey_at.Met as k7-thm
+use Rattle.feed.proofs.calls.act_call.Key.{name as #feed·act-call}
+use Rattle.feed.proofs.calls.act_call as f
+use Rattle.feed.proofs.calls.act_call.Statement as stated
+use Rattle.feed.proofs.calls.act_call.Code as code
+use Rattle.feed.proofs.calls.act_call.Code.Mir as pieces
+
+-- a type, as the function spells it
+abbrev spelled : Plain → Ty
+spelled p = spell pieces.table (pointee (p .T .written))
+
+-- an outcome and a row, as one
+abbrev obeyed : Outcome → List Session → Obeyed
+obeyed out zs = record { outcome = out; row = zs }
+
+module _ (ys : List Session) (p : ℕ) (sound : Bool) (f : Fed) (r : Record) (m : List ℕ) where
+  -- the two cases, by the kind
+  abbrev by-kind : Bool → Obeyed
+  by-kind t = cond t (receiveAt ys (arrivalIn f r p sound) m) (obeyAt ys (f .head) (seenAt p sound) (requestIn r))
+
+  pub received : eqb (r .kind) 5 ≡ true → (x : Arrival) → x ≡ arrivalIn f r p sound → (out : Outcome) (zs : List Session) → obeyed out zs ≡ receiveAt ys x m → obeyed out zs ≡ actAt ys p sound f r m
+  unfolding actAt
+  received k x ex out zs e = e ∙ ap (λ (y : Arrival). receiveAt ys y m) ex ∙ sym (ap by-kind k)
+
+  pub requested : eqb (r .kind) 5 ≡ false → (s : Summary) → s ≡ seenAt p sound → (h : Head) → h ≡ f .head → (q : Request) → q ≡ requestIn r → (out : Outcome) (zs : List Session) → obeyed out zs ≡ obeyAt ys h s q → obeyed out zs ≡ actAt ys p sound f r m
+  unfolding actAt
+  requested k s es h eh q eq out zs e = e ∙ ap (λ (y : Head). obeyAt ys y s q) eh ∙ ap (λ (y : Summary). obeyAt ys (f .head) y q) es ∙ ap (obeyAt ys (f .head) (seenAt p sound)) eq ∙ sym (ap by-kind k)
+
+abbrev laws : way.AtLabel sessionP u64P boolP fedP recordP arrivalP summaryP headP requestP outcomeP
+laws = record {
+  test = λ r. eqb (r .kind) 5;
+  arrival = arrivalIn;
+  Received = λ ys x m out zs. obeyed out zs ≡ receiveAt ys x m;
+  seen = seenAt;
+  head = λ f. f .head;
+  request = requestIn;
+  Obeyed = λ ys h s q out zs. obeyed out zs ≡ obeyAt ys h s q;
+  Said = λ ys p sound f r m out zs. obeyed out zs ≡ actAt ys p sound f r m;
+  says-received = received;
+  says-obeyed = requested;
+}
+
+pub act-call-spec : {M : Type 1} → stated.statement M
+unfolding code.routine tablesOf
+act-call-spec 𝓤 H 𝓜 𝓖 𝓡 =
+    entered 𝓤 H (tripleOf 𝓤 H (𝓖 .A) f.signature (f.spec 𝓤 H (𝓖 .A) (𝓜 .mem) (𝓡 .run)))
+    (tables 𝓤 H 𝓜 𝓡 code.env .C) (tables 𝓤 H 𝓜 𝓡 code.env .Λ) #feed·act-call code.function (code.unfolded 𝓤 H 𝓜 𝓡)
+    (way.meets sessionP u64P boolP fedP recordP arrivalP summaryP headP requestP outcomeP laws (spelled outcomeP) (spelled u64P) (spelled boolP) (spelled fedP) (spelled recordP) (spelled arrivalP) (spelled summaryP) (spelled headP) (spelled requestP) (spelled sessionP)
+    (outcomeP .typed 𝓤 H (𝓖 .A) (givenOf 𝓤 H 𝓜 𝓖)) (u64P .typed 𝓤 H (𝓖 .A) (givenOf 𝓤 H 𝓜 𝓖)) (boolP .typed 𝓤 H (𝓖 .A) (givenOf 𝓤 H 𝓜 𝓖)) (fedP .typed 𝓤 H (𝓖 .A) (givenOf 𝓤 H 𝓜 𝓖)) (recordP .typed 𝓤 H (𝓖 .A) (givenOf 𝓤 H 𝓜 𝓖)) (arrivalP .typed 𝓤 H (𝓖 .A) (givenOf 𝓤 H 𝓜 𝓖)) (summaryP .typed 𝓤 H (𝓖 .A) (givenOf 𝓤 H 𝓜 𝓖)) (headP .typed 𝓤 H (𝓖 .A) (givenOf 𝓤 H 𝓜 𝓖)) (requestP .typed 𝓤 H (𝓖 .A) (givenOf 𝓤 H 𝓜 𝓖))
+    #feed·asking·is-received #feed·asking·arrival-in #row·receive-at #feed·asking·seen-at #feed·asking·head-of #feed·asking·request-in #row·obey-at 𝓤 H (𝓖 .A) (givenOf 𝓤 H 𝓜 𝓖) (tablesOf 𝓤 H 𝓜 (tables 𝓤 H 𝓜 𝓡 code.env))
+    (cited 𝓤 H (way.Test sessionP u64P boolP fedP recordP arrivalP summaryP headP requestP outcomeP laws 𝓤 H (𝓖 .A)) 𝓜 𝓡 code.env #feed·asking·is-received k1-def.routine code.calls-feed·asking·is-received (k1-thm.met 𝓤 H 𝓜 𝓖 𝓡))
+    (cited 𝓤 H (way.Arrives sessionP u64P boolP fedP recordP arrivalP summaryP headP requestP outcomeP laws 𝓤 H (𝓖 .A)) 𝓜 𝓡 code.env #feed·asking·arrival-in k2-def.routine code.calls-feed·asking·arrival-in (k2-thm.met 𝓤 H 𝓜 𝓖 𝓡))
+    (cited 𝓤 H (way.Receive sessionP u64P boolP fedP recordP arrivalP summaryP headP requestP outcomeP laws 𝓤 H (𝓖 .A)) 𝓜 𝓡 code.env #row·receive-at k3-def.routine code.calls-row·receive-at (k3-thm.met 𝓤 H 𝓜 𝓖 𝓡))
+    (cited 𝓤 H (way.Seen sessionP u64P boolP fedP recordP arrivalP summaryP headP requestP outcomeP laws 𝓤 H (𝓖 .A)) 𝓜 𝓡 code.env #feed·asking·seen-at k4-def.routine code.calls-feed·asking·seen-at (k4-thm.met 𝓤 H 𝓜 𝓖 𝓡))
+    (cited 𝓤 H (way.Heads sessionP u64P boolP fedP recordP arrivalP summaryP headP requestP outcomeP laws 𝓤 H (𝓖 .A)) 𝓜 𝓡 code.env #feed·asking·head-of k5-def.routine code.calls-feed·asking·head-of (k5-thm.met 𝓤 H 𝓜 𝓖 𝓡))
+    (cited 𝓤 H (way.Requests sessionP u64P boolP fedP recordP arrivalP summaryP headP requestP outcomeP laws 𝓤 H (𝓖 .A)) 𝓜 𝓡 code.env #feed·asking·request-in k6-def.routine code.calls-feed·asking·request-in (k6-thm.met 𝓤 H 𝓜 𝓖 𝓡))
+    (cited 𝓤 H (way.Obey sessionP u64P boolP fedP recordP arrivalP summaryP headP requestP outcomeP laws 𝓤 H (𝓖 .A)) 𝓜 𝓡 code.env #row·obey-at k7-def.routine code.calls-row·obey-at (k7-thm.met 𝓤 H 𝓜 𝓖 𝓡)))

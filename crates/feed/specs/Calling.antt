@@ -1,0 +1,102 @@
+-- One record of a feed by its parts: what is made of it for the call, the call, and the line from its outcome. This is what the code is proved to do.
+-- Assumes nothing.
+use Prim.Native.Nat.{ℕ, _+_, _-_, _^_, _≤_, _<_}
+use mathlib.Core.Path.{_≡_}
+use mathlib.Core.Bool.{Bool, cond, false, _&&_}
+use mathlib.Core.List.{List}
+use lib.Dec.{eqb, ltb, leb}
+use lib.ListN.{length, drop}
+use Rattle.session.specs.declared.Session.{Session}
+use Rattle.table.specs.Table.{inOrder}
+use Rattle.scan.specs.declared.Summary.{Summary}
+use Rattle.step.specs.declared.Request.{Request}
+use Rattle.step.specs.declared.Request.the-variants.{Tick, Close, Lock, Unlock, ReportOn, WriteCc, WriteCv}
+use Rattle.step.specs.declared.Opening.{Opening}
+use Rattle.step.specs.declared.Arrival.{Arrival}
+use Rattle.step.specs.declared.Told.{Told}
+use Rattle.step.specs.declared.Outcome.{Outcome}
+use Rattle.step.specs.Stepping.{tableOf, Obeyed, obeyAt}
+use Rattle.step.specs.Arriving.{receiveAt}
+use Rattle.step.specs.Saying.{Steps}
+use Rattle.capture.specs.declared.Record.{Record}
+use Rattle.capture.specs.Records.{bodyIn, settingsIn, callOf}
+use Rattle.capture.specs.Lines.{numbered, plainLine, reportLine, octetsLine}
+use Rattle.capture.specs.Typing.{typed}
+use Rattle.feed.specs.declared.Fed.{Fed}
+
+abbrev pub bodyAt : List ℕ → Fed → Record → List ℕ
+bodyAt input f r = bodyIn (drop (f .used) input) (r .size)
+
+-- an open
+abbrev pub openingIn : List ℕ → Fed → Record → Opening
+openingIn input f r = record { settings = settingsIn (r .label) (bodyAt input f r); reading = r .time }
+
+-- what an open knows of the row, by the first record that has its label or its discriminator
+abbrev pub rivalSeen : ℕ → Bool → Summary
+rivalSeen place sound = record { place = 64; sound = sound; rival = ltb place 64 }
+
+-- the set in which the label is looked for: a tick looks for none
+abbrev pub soughtIn : Fed → Record → ℕ
+soughtIn f r = cond (eqb (r .kind) 0) 0 (f .head .occupied)
+
+-- what the others know of it
+abbrev pub seenAt : ℕ → Bool → Summary
+seenAt place sound = record { place = place; sound = sound; rival = false }
+
+-- a body lies behind the 16 octets of its record; at the end of all numbers there is none
+abbrev pub bodyFrom : ℕ → ℕ
+bodyFrom used = cond (ltb used 18446744073709551600) (used + 16) 18446744073709551615
+
+abbrev pub arrivalIn : Fed → Record → ℕ → Bool → Arrival
+arrivalIn f r place sound = record { head = f .head; reading = r .time; place = place; from = bodyFrom (f .used); size = r .size; sound = sound }
+
+-- the request of each kind that brings numbers alone
+abbrev pub requestIn : Record → Request
+requestIn r =
+    cond (eqb (r .kind) 0) (Tick (r .time))
+    (cond (eqb (r .kind) 2) (Close (r .label) (r .time))
+    (cond (eqb (r .kind) 3) (Lock (r .label) (r .time))
+    (cond (eqb (r .kind) 4) (Unlock (r .label) (r .time))
+    (cond (eqb (r .kind) 6) (ReportOn (r .label))
+    (cond (eqb (r .kind) 7) (WriteCc (r .label) 28) (WriteCv (r .label) 44))))))
+
+-- a call at the place of its label
+unfoldable pub actAt : List Session → ℕ → Bool → Fed → Record → List ℕ → Obeyed
+actAt row place sound f r input = cond (eqb (r .kind) 5) (receiveAt row (arrivalIn f r place sound) input) (obeyAt row (f .head) (seenAt place sound) (requestIn r))
+
+-- the octets that can be told have their lengths
+abbrev pub Whole : Outcome → Type 0
+Whole o = (length (o .told .cc) ≡ 28) × (length (o .told .cv) ≡ 44)
+
+-- where it is known of a row whether it is in order, and a record's 16 octets stand in the input, its call is the table's step. Lengths are those that a machine can hold
+abbrev pub Calls : List Session → Fed → Record → List ℕ → Bool → Outcome → List Session → Type 0
+Calls row f r input sound o zs =
+    sound ≡ inOrder (tableOf row (f .head)) → f .used + 16 ≤ length input → length input < 2 ^ 64 → length row < 2 ^ 64
+    → Steps row (f .head) (callOf r (bodyAt input f r)) (record { outcome = o; row = zs }) × Whole o
+
+-- an accepted report or write tells something
+abbrev pub tells : ℕ → ℕ → Bool
+tells kind answer = eqb answer 0 && leb 6 kind
+
+-- kind 6 tells its report, 7 and 8 their octets
+abbrev pub toldLine : ℕ → ℕ → Told → List ℕ
+toldLine number kind told =
+    cond (eqb kind 6) (reportLine number (told .report)) (cond (eqb kind 7) (octetsLine number (told .cc)) (octetsLine number (told .cv)))
+
+-- the line of an outcome, by the record's kind
+unfoldable pub lineBy : ℕ → ℕ → Outcome → List ℕ
+lineBy number kind o = cond (tells kind (o .answer)) (toldLine number kind (o .told)) (plainLine number (o .answer))
+
+-- the place behind a record; its own where it does not stand whole in so many octets
+abbrev pub behindOf : ℕ → ℕ → ℕ → ℕ
+behindOf octets used size = cond (ltb (octets - used) (16 + size)) used (used + (16 + size))
+
+-- what is fed after a call, and the output
+pub record Answered : Type 0 where
+  pub fed : Fed
+  pub out : List ℕ
+
+unfoldable pub answered : List ℕ → Fed → ℕ → Record → Outcome → Answered
+answered out f octets r o =
+    let p = typed (record { buffer = out; at = f .written }) (lineBy (numbered (f .number)) (r .kind) o) in
+    record { fed = record { head = o .head; number = numbered (f .number); used = behindOf octets (f .used) (r .size); written = p .at }; out = p .buffer }

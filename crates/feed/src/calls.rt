@@ -1,0 +1,94 @@
+// The call of one record on the row: an open behind the search for a rival, the others at the place
+// of their label.
+use crate::Fed;
+use crate::asking::arrival_in;
+use crate::asking::head_of;
+use crate::asking::is_open;
+use crate::asking::is_received;
+use crate::asking::label_of;
+use crate::asking::occupied_of;
+use crate::asking::opening_discriminator;
+use crate::asking::opening_in;
+use crate::asking::opening_label;
+use crate::asking::request_in;
+use crate::asking::rival_seen;
+use crate::asking::seen_at;
+use crate::asking::sought_in;
+use capture::Record;
+use row::find;
+use row::obey_at;
+use row::open_at;
+use row::place_known;
+use row::receive_at;
+use session::Session;
+use step::Outcome;
+ghost use mathlib.Core.Path.{_≡_};
+ghost use mathlib.Core.Bool.{true, false};
+ghost use lib.Dec.{eqb};
+ghost use Rattle.feed.specs.Calling.{actAt, Calls};
+
+fn open_call(row: &mut [Session], sound: bool, f: Fed, r: Record, input: &[u8]) -> Outcome
+    ensures { λ o. ⌜ ((eqb (r .kind) 1 ≡ true) → Calls (now (row .entry)) f r (now (input .entry)) sound o (now (row .exit))) ⌝ }
+{
+    let g = opening_in(input, f, r);
+    let occupied = occupied_of(f);
+    let label = opening_label(g);
+    let discriminator = opening_discriminator(g);
+    let place = find(&*row, occupied, label, discriminator);
+    let s = rival_seen(place, sound);
+    let head = head_of(f);
+    open_at(row, head, s, g)
+}
+
+// At the place of its label: a message, or a request that brings numbers alone.
+fn act_call(
+    row: &mut [Session],
+    place: usize,
+    sound: bool,
+    f: Fed,
+    r: Record,
+    input: &[u8],
+) -> Outcome
+    ensures { λ o. ⌜ record { outcome = o; row = now (row .exit) } ≡ actAt (now (row .entry)) place sound f r (now (input .entry)) ⌝ }
+{
+    if is_received(r) {
+        let x = arrival_in(f, r, place, sound);
+        return receive_at(row, x, input);
+    }
+    let s = seen_at(place, sound);
+    let head = head_of(f);
+    let q = request_in(r);
+    obey_at(row, head, s, q)
+}
+
+fn label_call(
+    row: &mut [Session],
+    hints: &mut [u8],
+    sound: bool,
+    f: Fed,
+    r: Record,
+    input: &[u8],
+) -> Outcome
+    ensures { λ o. ⌜ ((eqb (r .kind) 1 ≡ false) → Calls (now (row .entry)) f r (now (input .entry)) sound o (now (row .exit))) ⌝ }
+{
+    let occupied = sought_in(f, r);
+    let label = label_of(r);
+    let place = place_known(&*row, hints, occupied, label);
+    act_call(row, place, sound, f, r, input)
+}
+
+pub fn call(
+    row: &mut [Session],
+    hints: &mut [u8],
+    sound: bool,
+    f: Fed,
+    r: Record,
+    input: &[u8],
+) -> Outcome
+    ensures { λ o. ⌜ Calls (now (row .entry)) f r (now (input .entry)) sound o (now (row .exit)) ⌝ }
+{
+    if is_open(r) {
+        return open_call(row, sound, f, r, input);
+    }
+    label_call(row, hints, sound, f, r, input)
+}
