@@ -2,7 +2,7 @@
 use crate::texts::put_text;
 use capture::Next;
 use feed::Fed;
-use feed::Feeding;
+use owner::Feeding;
 ghost use Rattle.io.specs.Counts.{Counts};
 
 // The table, and how many octets of the capture have come.
@@ -13,9 +13,9 @@ struct Playing {
 
 // An empty table in front of the first record.
 fn begun() -> Playing {
-    let t = owner::own_table();
-    let row = t.row;
-    let head = t.head;
+    let r = table::absent();
+    let row = [r; 64];
+    let head = table::first_head();
     let fed = Fed {
         head: head,
         number: 0,
@@ -41,7 +41,7 @@ fn further(have: usize, step: usize, all: &[u8]) -> usize
 
 fn advance(p: Playing, capture: &[u8], step: usize, out: &mut [u8]) -> Playing {
     let have = further(p.have, step, capture);
-    let table = feed::feed(p.table, &capture[..have], out);
+    let table = owner::feed(p.table, &capture[..have], out);
     Playing { table, have: have }
 }
 

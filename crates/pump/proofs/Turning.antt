@@ -11,7 +11,7 @@ use lib.Seq.{sets}
 use borrow.Author.Tests.{lt-ltb, le-ltb, ltb-true, ltb-false, eq-eqb, ne-eqb}
 use Rattle.rules.proofs.Bools.{split}
 use Rattle.capture.specs.Records.{headerFits, nextIn}
-use Rattle.feed.specs.declared.Feeding.{Feeding}
+use Rattle.owner.specs.declared.Feeding.{Feeding}
 use Rattle.feed.specs.Feeding.{Flow, feedOf}
 use Rattle.text.specs.Text.{cut, badHeader, ending}
 use Rattle.pump.specs.declared.Pump.{Pump}

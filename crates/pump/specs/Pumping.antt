@@ -10,7 +10,7 @@ use lib.Seq.{sets}
 use Rattle.capture.specs.declared.Next.{Next}
 use Rattle.capture.specs.declared.Next.the-variants.{Whole, Broken, Short, End}
 use Rattle.capture.specs.Records.{headerFits, nextIn}
-use Rattle.feed.specs.declared.Feeding.{Feeding}
+use Rattle.owner.specs.declared.Feeding.{Feeding}
 use Rattle.feed.specs.Feeding.{Flow, feedOf}
 use Rattle.text.specs.Text.{badHeader, ending}
 use Rattle.text.specs.Putting.{emptyTable}

@@ -5,10 +5,10 @@ mod moving;
 mod turns;
 
 pub use failures::put_failure;
-use feed::Feeding;
 use moving::advance;
 pub use moving::part;
 pub use moving::within;
+use owner::Feeding;
 use turns::begin;
 use turns::feed_on;
 use turns::is_ready;

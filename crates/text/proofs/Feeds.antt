@@ -10,21 +10,19 @@ use lib.ListN.{length, take, drop, length-set, length-append, length-drop}
 use lib.Seq.{drop-drop, take-at, length-take-le}
 use borrow.Author.Tests.{ltb-true, ltb-false, leb-true, le-leb}
 use Rattle.octets.proofs.Chain.{and-both}
-use Rattle.rules.specs.Calls.{Call, Said}
+use Rattle.rules.specs.Calls.{Act, Close, Lock, Unlock, Receive, ReportOn, WriteCc, WriteCv, Call, Tick, Open, On, Said, isAccepted}
 use Rattle.rules.proofs.Bools.{split, both-true}
 use Rattle.session.specs.declared.Session.{Session}
 use Rattle.table.specs.declared.Head.{Head}
-use Rattle.step.specs.declared.Request.{Request}
-use Rattle.step.specs.Requests.{requestOf}
-use Rattle.step.specs.Stepping.{tableOf, rowStep, rowAfter}
-use Rattle.step.proofs.TableStep.{step-table}
+use Rattle.table.specs.Table.{Table, answer, next, done, actDone, altered, added, closed}
+use Rattle.step.specs.Stepping.{tableOf}
 use Rattle.capture.specs.Records.{nextIn, actOf, callOf, callIn, recordIn, bodyIn, isWhole, sizeOf}
 use Rattle.capture.specs.Lines.{line, numbered}
-use Rattle.capture.specs.Typing.{lineFor}
-use Rattle.capture.proofs.LineSaid.{Exact, ExactAct, line-said}
-use Rattle.capture.proofs.Typing.{typed-fits, line-short}
+use Rattle.capture.proofs.LineSaid.{Exact, ExactAct}
+use Rattle.capture.proofs.LineShort.{line-short}
+use Rattle.capture.proofs.Typing.{typed-fits}
 use Rattle.feed.specs.declared.Fed.{Fed}
-use Rattle.feed.specs.Feeding.{longest, moreOf, answered, Flow, requestIn, turnOf, goOn, feedOf}
+use Rattle.feed.specs.Feeding.{longest, moreOf, headOf, Flow, callNext, turnOf, goOn, feedOf}
 use Rattle.meaning.specs.Histories.{History, after}
 use Rattle.meaning.specs.Answers.{says}
 use Rattle.text.specs.Text.{Parsed, parsed, linesAfter}
@@ -57,6 +55,27 @@ exact-call s =
     (λ a. split (eqb (r .kind) 1)
     (λ b. rw (a, b) tt)
     (λ b. rw (a, b) (exact-act (r .kind) (bodyIn s (r .size)) (r .time))))
+
+-- ---- a call leaves as many records as there were
+act-rows : (t : Table) (l : ℕ) (a : Act) → length (actDone t l a .row) ≡ length (t .row)
+unfolding actDone altered closed
+act-rows t l (Close u) = refl
+act-rows t l (Lock u) = length-set (t .row) _ _
+act-rows t l (Unlock u) = length-set (t .row) _ _
+act-rows t l (Receive m u) = length-set (t .row) _ _
+act-rows t l ReportOn = refl
+act-rows t l (WriteCc b) = length-set (t .row) _ _
+act-rows t l (WriteCv b) = refl
+
+done-rows : (t : Table) (c : Call) → length (done t c .row) ≡ length (t .row)
+unfolding done added
+done-rows t (Tick u) = refl
+done-rows t (Open g u) = length-set (t .row) _ _
+done-rows t (On l a) = act-rows t l a
+
+next-rows : (t : Table) (c : Call) → length (next t c .row) ≡ length (t .row)
+unfolding next
+next-rows t c = split (isAccepted (answer t c)) (λ e. rw e (done-rows t c)) (λ e. rw e)
 
 -- ---- the text of what comes, by one record
 -- a line has its end
@@ -183,15 +202,11 @@ module _ (input : List ℕ) where
       let both = and-both (isWhole (nextIn (drop (x .fed .used) input))) (leb longest (length (x .out) - x .fed .written)) m in
       (both .0, omega (arith, leb-true 160 (length (x .out) - x .fed .written) (both .1)))
 
-  row-length : (row : List Session) (head : Head) (q : Request) → length (rowAfter row head q) ≡ length row
-  unfolding rowAfter
-  row-length row head q = length-set row _ _
-
   -- the line has room
-  turn-is : (x : Flow) → let q = requestIn input (x .fed) in let o = rowStep (x .row) (x .fed .head) q .outcome in
-      x .fed .written + length (lineFor (numbered (x .fed .number)) q o) ≤ length (x .out)
-      → turnOf input x ≡ after-one x (lineFor (numbered (x .fed .number)) q o) (rowAfter (x .row) (x .fed .head) q) (o .head)
-  unfolding turnOf answered
+  turn-is : (x : Flow) → let t = tableOf (x .row) (x .fed .head) in let c = callNext input (x .fed) in
+      x .fed .written + length (line (numbered (x .fed .number)) c (answer t c)) ≤ length (x .out)
+      → turnOf input x ≡ after-one x (line (numbered (x .fed .number)) c (answer t c)) (next t c .row) (headOf (next t c))
+  unfolding turnOf
   turn-is x l = rw (typed-fits (record { buffer = x .out; at = x .fed .written }) _ l)
 
   turned : (h : History) (x : Flow) → Reached h (tableOf (x .row) (x .fed .head)) → length (x .row) ≡ 64 → x .fed .written ≤ length (x .out)
@@ -199,17 +214,12 @@ module _ (input : List ℕ) where
   turned h x r k l m =
       let s = drop (x .fed .used) input in
       let c = callIn s in
-      let row = x .row in
-      let head = x .fed .head in
-      let o = rowStep row head (requestOf c) .outcome in
-      let text = lineFor (numbered (x .fed .number)) (requestOf c) o in
+      let t = tableOf (x .row) (x .fed .head) in
+      let text = line (numbered (x .fed .number)) c (answer t c) in
       let there = more-whole x m in
-      let fits : x .fed .written + length text ≤ length (x .out) = omega (arith, there .1, line-short (numbered (x .fed .number)) (requestOf c) o) in
-      let said : text ≡ line (numbered (x .fed .number)) c (says h c) =
-      sym (line-said (numbered (x .fed .number)) row head c (exact-call s)) ∙ ap (line (numbered (x .fed .number)) c) (reached-says r c) in
-      let left = step-table row head (omega (arith, k)) c in
+      let fits : x .fed .written + length text ≤ length (x .out) = omega (arith, there .1, line-short (numbered (x .fed .number)) t c (exact-call s)) in
       subst (λ (y : Flow). Went input h x y) (sym (turn-is x fits))
-      (one-record h x text (rowAfter row head (requestOf c)) (o .head) (there .0) said (subst (Reached (after h c (says h c))) (sym left) (reached-next r c)) (row-length row head (requestOf c)) fits)
+      (one-record h x text (next t c .row) (headOf (next t c)) (there .0) (ap (line (numbered (x .fed .number)) c) (reached-says r c)) (reached-next r c) (next-rows t c) fits)
 
   -- at most n records
   goes : (n : ℕ) (x : Flow) → moreOf (x .fed) input (length (x .out)) ≡ true → goOn input (suc n) x ≡ goOn input n (turnOf input x)
@@ -237,7 +247,7 @@ module _ (input : List ℕ) where
 
   -- where there is more, octets are used
   turn-used : (x : Flow) → turnOf input x .fed .used ≡ x .fed .used + sizeOf (nextIn (drop (x .fed .used) input))
-  unfolding turnOf answered
+  unfolding turnOf
   turn-used x = refl
 
   took : (n : ℕ) (h : History) (x : Flow) → Reached h (tableOf (x .row) (x .fed .head)) → length (x .row) ≡ 64 → x .fed .written ≤ length (x .out)

@@ -15,7 +15,7 @@ use Rattle.rules.proofs.Bools.{split}
 use Rattle.table.specs.Table.{absent, emptied}
 use Rattle.step.specs.Stepping.{tableOf}
 use Rattle.capture.specs.Records.{nextIn, isWhole}
-use Rattle.feed.specs.declared.Feeding.{Feeding}
+use Rattle.owner.specs.declared.Feeding.{Feeding}
 use Rattle.feed.specs.Feeding.{Flow, feedOf}
 use Rattle.meaning.specs.Histories.{History, start}
 use Rattle.text.specs.declared.Count.{Count}

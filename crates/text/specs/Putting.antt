@@ -7,7 +7,7 @@ use lib.Dec.{leb}
 use lib.ListN.{length, replicate}
 use lib.Seq.{sets}
 use Rattle.table.specs.Table.{absent}
-use Rattle.feed.specs.declared.Feeding.{Feeding}
+use Rattle.owner.specs.declared.Feeding.{Feeding}
 use Rattle.text.specs.declared.Count.{Count}
 
 -- whether so many octets fit into so much room, and how many they are

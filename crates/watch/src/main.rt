@@ -149,7 +149,7 @@ fn run(buf: &mut [u8], out: &mut [u8]) -> Pump
 }
 
 fn main() {
-    let mut buf = io::large_buffer();
-    let mut out = io::large_buffer();
+    let mut buf = [0u8; 262_144];
+    let mut out = [0u8; 262_144];
     run(&mut buf, &mut out);
 }
