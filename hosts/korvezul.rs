@@ -1,0 +1,296 @@
+//! The header for a host in Rust, and the calls behind a type that lends its own row and head, so that
+//! the borrow checker sees to what the header asks of a host.
+#![allow(dead_code)] // a host calls what it needs
+use std::mem::{align_of, offset_of, size_of};
+
+pub const RECORDS: usize = 64;
+/// The version of the header that these declarations follow, 1.0.0.
+pub const VERSION: u32 = 0x010000;
+
+#[repr(C)]
+#[derive(Clone, Copy, Debug, Default, PartialEq)]
+pub struct MepId {
+    pub kind: u16,
+    pub global: u32,
+    pub node: u32,
+    pub local: u32,
+}
+
+#[repr(C)]
+#[derive(Clone, Copy, Debug, Default, PartialEq)]
+pub struct Settings {
+    pub label: u32,
+    pub discriminator: u32,
+    pub period: u32,
+    pub own: MepId,
+    pub expected: MepId,
+    pub follow_link: u8,
+    pub follow_lock: u8,
+}
+
+#[repr(C)]
+#[derive(Clone, Copy, Debug, Default, PartialEq)]
+pub struct Key {
+    pub node: u32,
+    pub interface: u32,
+    pub kind: u8,
+    pub present: u8,
+}
+
+#[repr(C)]
+#[derive(Clone, Copy, Debug, Default, PartialEq)]
+pub struct Condition {
+    pub at: u64,
+    pub key: Key,
+    pub refresh: u8,
+    pub link_down: u8,
+}
+
+#[repr(C)]
+#[derive(Clone, Copy, Debug, Default, PartialEq)]
+pub struct Peer {
+    pub remote: u32,
+    pub multiplier: u8,
+    pub diagnostic: u8,
+    pub owed: u8,
+}
+
+#[repr(C)]
+#[derive(Clone, Copy, Debug, Default, PartialEq)]
+pub struct Session {
+    pub timed: u64,
+    pub crossed: u64,
+    pub conditions: [Condition; 4],
+    pub settings: Settings,
+    pub peer: Peer,
+    pub state: u8,
+    pub crossing: u8,
+}
+
+#[repr(C)]
+#[derive(Clone, Copy, Debug, Default, PartialEq)]
+pub struct Head {
+    pub clock: u64,
+    pub occupied: u64,
+}
+
+#[repr(C)]
+#[derive(Clone, Copy)]
+pub struct ReportAnswer {
+    pub answer: u32,
+    pub state: u8,
+    pub crossing: u8,
+    pub loss: u8,
+    pub alarm: u8,
+    pub rdi: u8,
+    pub blocked: u8,
+    pub conditions: u8,
+}
+
+#[repr(C)]
+#[derive(Clone, Copy, Debug, Default, PartialEq)]
+pub struct Packet {
+    pub my: u32,
+    pub your: u32,
+    pub transmit: u32,
+    pub receive: u32,
+    pub echo: u32,
+    pub diagnostic: u8,
+    pub state: u8,
+    pub multiplier: u8,
+    pub poll: u8,
+    pub fin: u8,
+    pub independent: u8,
+    pub demand: u8,
+}
+
+#[repr(C)]
+#[derive(Clone, Copy, Debug, Default, PartialEq)]
+pub struct Fault {
+    pub node: u32,
+    pub interface: u32,
+    pub global: u32,
+    pub kind: u8,
+    pub link_down: u8,
+    pub removed: u8,
+    pub refresh: u8,
+    pub has_if_id: u8,
+    pub has_global_id: u8,
+}
+
+#[repr(C)]
+pub struct CcRead {
+    pub answer: u32,
+    pub packet: Packet,
+}
+
+#[repr(C)]
+pub struct CvRead {
+    pub answer: u32,
+    pub part: u32,
+    pub packet: Packet,
+    pub mep: MepId,
+}
+
+#[repr(C)]
+pub struct FaultRead {
+    pub answer: u32,
+    pub fault: Fault,
+}
+
+// The layout that the library was compiled with.
+const _: () = {
+    assert!(size_of::<Session>() == 176 && align_of::<Session>() == 8 && offset_of!(Session, settings) == 112);
+    assert!(offset_of!(Session, peer) == 160 && offset_of!(Session, state) == 168 && size_of::<Settings>() == 48);
+    assert!(size_of::<Condition>() == 24 && offset_of!(Condition, refresh) == 20 && size_of::<Head>() == 16);
+    assert!(size_of::<ReportAnswer>() == 12 && size_of::<Packet>() == 28 && size_of::<Fault>() == 20);
+    assert!(size_of::<CcRead>() == 32 && size_of::<CvRead>() == 52 && size_of::<FaultRead>() == 24);
+    assert!(offset_of!(CvRead, mep) == 36 && offset_of!(CcRead, packet) == 4 && offset_of!(CvRead, packet) == 8);
+};
+
+extern "C" {
+    pub fn korvezul_version() -> u32;
+    pub fn korvezul_empty(row: *const Session, records: usize, head: *mut Head) -> u32;
+    pub fn korvezul_open(row: *mut Session, records: usize, head: *mut Head, settings: Settings, reading: u64) -> u32;
+    pub fn korvezul_close(row: *mut Session, records: usize, head: *mut Head, label: u32, reading: u64) -> u32;
+    pub fn korvezul_lock(row: *mut Session, records: usize, head: *mut Head, label: u32, reading: u64) -> u32;
+    pub fn korvezul_unlock(row: *mut Session, records: usize, head: *mut Head, label: u32, reading: u64) -> u32;
+    pub fn korvezul_receive(
+        row: *mut Session,
+        records: usize,
+        head: *mut Head,
+        label: u32,
+        message: *const u8,
+        octets: usize,
+        reading: u64,
+    ) -> u32;
+    pub fn korvezul_tick(row: *mut Session, records: usize, head: *mut Head, reading: u64) -> u32;
+    pub fn korvezul_report(row: *mut Session, records: usize, head: *mut Head, label: u32) -> ReportAnswer;
+    pub fn korvezul_write_cc(
+        row: *mut Session,
+        records: usize,
+        head: *mut Head,
+        label: u32,
+        buffer: *mut u8,
+        size: usize,
+    ) -> u32;
+    pub fn korvezul_write_cv(
+        row: *mut Session,
+        records: usize,
+        head: *mut Head,
+        label: u32,
+        buffer: *mut u8,
+        size: usize,
+    ) -> u32;
+    pub fn korvezul_read_cc(message: *const u8, octets: usize) -> CcRead;
+    pub fn korvezul_read_cv(message: *const u8, octets: usize) -> CvRead;
+    pub fn korvezul_read_fault(message: *const u8, octets: usize) -> FaultRead;
+    pub fn korvezul_write_cc_message(buffer: *mut u8, size: usize, packet: Packet) -> u32;
+    pub fn korvezul_write_cv_message(buffer: *mut u8, size: usize, packet: Packet, mep: MepId) -> u32;
+    pub fn korvezul_write_fault_message(buffer: *mut u8, size: usize, fault: Fault) -> u32;
+}
+
+/// A table. A slice or an array is never null and is aligned, and what is borrowed apart is apart:
+/// that is all that the calls ask.
+#[derive(Clone, PartialEq)]
+pub struct Table {
+    pub row: [Session; RECORDS],
+    pub head: Head,
+}
+
+impl Table {
+    pub fn new() -> Table {
+        Table { row: [Session::default(); RECORDS], head: Head::default() }
+    }
+    pub fn empty(&mut self) -> u32 {
+        unsafe { korvezul_empty(self.row.as_ptr(), RECORDS, &mut self.head) }
+    }
+    pub fn open(&mut self, settings: Settings, reading: u64) -> u32 {
+        unsafe { korvezul_open(self.row.as_mut_ptr(), RECORDS, &mut self.head, settings, reading) }
+    }
+    pub fn close(&mut self, label: u32, reading: u64) -> u32 {
+        unsafe { korvezul_close(self.row.as_mut_ptr(), RECORDS, &mut self.head, label, reading) }
+    }
+    pub fn lock(&mut self, label: u32, reading: u64) -> u32 {
+        unsafe { korvezul_lock(self.row.as_mut_ptr(), RECORDS, &mut self.head, label, reading) }
+    }
+    pub fn unlock(&mut self, label: u32, reading: u64) -> u32 {
+        unsafe { korvezul_unlock(self.row.as_mut_ptr(), RECORDS, &mut self.head, label, reading) }
+    }
+    pub fn receive(&mut self, label: u32, message: &[u8], reading: u64) -> u32 {
+        unsafe {
+            korvezul_receive(
+                self.row.as_mut_ptr(),
+                RECORDS,
+                &mut self.head,
+                label,
+                message.as_ptr(),
+                message.len(),
+                reading,
+            )
+        }
+    }
+    pub fn tick(&mut self, reading: u64) -> u32 {
+        unsafe { korvezul_tick(self.row.as_mut_ptr(), RECORDS, &mut self.head, reading) }
+    }
+    pub fn report(&mut self, label: u32) -> ReportAnswer {
+        unsafe { korvezul_report(self.row.as_mut_ptr(), RECORDS, &mut self.head, label) }
+    }
+    pub fn write_cc(&mut self, label: u32, buffer: &mut [u8]) -> u32 {
+        unsafe {
+            korvezul_write_cc(self.row.as_mut_ptr(), RECORDS, &mut self.head, label, buffer.as_mut_ptr(), buffer.len())
+        }
+    }
+    pub fn write_cv(&mut self, label: u32, buffer: &mut [u8]) -> u32 {
+        unsafe {
+            korvezul_write_cv(self.row.as_mut_ptr(), RECORDS, &mut self.head, label, buffer.as_mut_ptr(), buffer.len())
+        }
+    }
+}
+
+pub fn read_cc(message: &[u8]) -> CcRead {
+    unsafe { korvezul_read_cc(message.as_ptr(), message.len()) }
+}
+
+pub fn read_cv(message: &[u8]) -> CvRead {
+    unsafe { korvezul_read_cv(message.as_ptr(), message.len()) }
+}
+
+pub fn read_fault(message: &[u8]) -> FaultRead {
+    unsafe { korvezul_read_fault(message.as_ptr(), message.len()) }
+}
+
+pub fn write_cc_message(buffer: &mut [u8], packet: Packet) -> u32 {
+    unsafe { korvezul_write_cc_message(buffer.as_mut_ptr(), buffer.len(), packet) }
+}
+
+pub fn write_cv_message(buffer: &mut [u8], packet: Packet, mep: MepId) -> u32 {
+    unsafe { korvezul_write_cv_message(buffer.as_mut_ptr(), buffer.len(), packet, mep) }
+}
+
+pub fn write_fault_message(buffer: &mut [u8], fault: Fault) -> u32 {
+    unsafe { korvezul_write_fault_message(buffer.as_mut_ptr(), buffer.len(), fault) }
+}
+
+/// The names of `korvezul_names.h`.
+pub fn answer_name(answer: u32) -> &'static str {
+    match answer {
+        0 => "accepted",
+        1 => "reading below the clock or too great",
+        2 => "no such session",
+        3 => "message too short",
+        4 => "no G-ACh header",
+        5 => "other channel",
+        6 => "BFD rule broken",
+        7 => "MEP-ID wrong",
+        8 => "fault message wrong",
+        9 => "four conditions stand",
+        10 => "out of range",
+        11 => "label or discriminator taken",
+        12 => "table full",
+        13 => "buffer too short",
+        14 => "session locked",
+        26 => "not a table",
+        _ => "unknown",
+    }
+}
