@@ -10,7 +10,7 @@ pub struct Content {
 
 // The file whose name stands in the first n octets, with an ending behind it. It is read whole if it
 // is there and shorter than the buffer.
-pub fn read_named(name: &mut [u8], n: usize, ending: &[u8], into: &mut [u8]) -> Content
+pub(crate) fn read_named(name: &mut [u8], n: usize, ending: &[u8], into: &mut [u8]) -> Content
     ensures { λ r. ⌜ Counts (r .size) (now (into .exit)) ⌝ }
 {
     let end = put_text(&mut *name, n, ending);

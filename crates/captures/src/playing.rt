@@ -65,7 +65,7 @@ fn end(fed: Fed, capture: &[u8], out: &mut [u8]) -> usize
 }
 
 // The text of a capture whose octets come in steps.
-pub fn text_of(capture: &[u8], step: usize, out: &mut [u8]) -> usize
+pub(crate) fn text_of(capture: &[u8], step: usize, out: &mut [u8]) -> usize
     ensures { λ r. ⌜ Counts r (now (out .exit)) ⌝ }
 {
     if !capture::header_fits(capture) {

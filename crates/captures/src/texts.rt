@@ -12,7 +12,7 @@ fn least(a: usize, b: usize) -> usize
 }
 
 // Puts text at a place, as far as there is room, and answers the place behind it.
-pub fn put_text(out: &mut [u8], at: usize, text: &[u8]) -> usize
+pub(crate) fn put_text(out: &mut [u8], at: usize, text: &[u8]) -> usize
     ensures { λ r. ⌜ Counts r (now (out .exit)) ⌝ }
 {
     if at >= out.len() {
@@ -36,7 +36,7 @@ fn ends_line(b: u8) -> u64
     0
 }
 
-pub fn line_count(text: &[u8]) -> u64 {
+pub(crate) fn line_count(text: &[u8]) -> u64 {
     let mut n: u64 = 0;
     let mut i: usize = 0;
     while i < text.len() {
