@@ -32,6 +32,17 @@ headerRefusal m =
 unfoldable pub channelRefusal : ℕ → List ℕ → ℕ
 channelRefusal channel m = orElse (headerRefusal m) (need (eqb (channelOf m) channel) 5 0)
 
+-- where the header goes wrong: 3 is told with the length of the message, 4 at octet 0; else what follows
+unfoldable pub headerPlace : List ℕ → ℕ → ℕ
+headerPlace m rest =
+    bar (ltb (length m) 4) (length m)
+    (need (eqb (getD m 0 0 / 16) 1) 0
+    (need (eqb (getD m 0 0 % 16) 0) 0 rest))
+
+-- and 5 at the channel type
+unfoldable pub channelPlace : ℕ → List ℕ → ℕ → ℕ
+channelPlace channel m rest = headerPlace m (need (eqb (channelOf m) channel) 2 rest)
+
 -- the header as it is written, before the octets of rest
 abbrev pub headerOctets : ℕ → List ℕ → List ℕ
 headerOctets channel rest = 0x10 ∷ 0 ∷ octetsOf 2 channel rest

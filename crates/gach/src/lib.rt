@@ -6,7 +6,7 @@ use octets::or_else;
 use octets::refuse_if;
 ghost use mathlib.Core.Path.{_≡_};
 ghost use Rattle.octets.specs.Choice.{answer};
-ghost use Rattle.gach.specs.Header.{headerRefusal, channelRefusal};
+ghost use Rattle.gach.specs.Header.{headerRefusal, channelRefusal, headerPlace, channelPlace};
 ghost use Rattle.gach.specs.Kinds.{said, kindRefusal, readKind};
 
 pub const CC_CHANNEL: u16 = 0x0022;
@@ -37,6 +37,33 @@ pub fn channel_refusal(m: &[u8], channel: u16) -> u32
     ensures { λ r. ⌜ r ≡ channelRefusal channel (now (m .entry)) ⌝ }
 {
     or_else(header_refusal(m), need(get_u16(m, 2) == channel, 5, 0))
+}
+
+// Where the header goes wrong: the length for 3, octet 0 for 4; else `rest`.
+pub fn header_place(m: &[u8], rest: usize) -> usize
+    ensures { λ r. ⌜ r ≡ headerPlace (now (m .entry)) rest ⌝ }
+{
+    if m.len() < 4 {
+        return m.len();
+    }
+    let first = get_u8(m, 0);
+    if first / 16 != 1 {
+        return 0;
+    }
+    if first % 16 != 0 {
+        return 0;
+    }
+    rest
+}
+
+// The same, and the channel type's place for one that is not the reader's own.
+pub fn channel_place(m: &[u8], channel: u16, rest: usize) -> usize
+    ensures { λ r. ⌜ r ≡ channelPlace channel (now (m .entry)) rest ⌝ }
+{
+    if get_u16(m, 2) == channel {
+        return header_place(m, rest);
+    }
+    header_place(m, 2)
 }
 
 fn kind_by(header: u32, channel: u16) -> Kind
