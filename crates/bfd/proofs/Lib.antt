@@ -1,2 +1,4 @@
 pub mod Says
 pub mod RoundTrip
+pub mod Earliest
+pub mod Used

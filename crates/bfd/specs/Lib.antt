@@ -1,3 +1,4 @@
 pub mod Packet
 pub mod Reception
 pub mod Octets
+pub mod Broken

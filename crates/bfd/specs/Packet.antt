@@ -5,7 +5,7 @@ use mathlib.Core.List.{List}
 use lib.ListN.{getD}
 use lib.Dec.{eqb}
 use Rattle.octets.specs.Numbers.{numberAt}
-use Rattle.octets.specs.Choice.{Answer, accepted, refused}
+use Rattle.octets.specs.Choice.{accepted, refused, Placed}
 use Rattle.bfd.specs.declared.Packet.{Packet}
 use Rattle.bfd.specs.declared.CcAnswer.{CcAnswer}
 use Rattle.bfd.specs.declared.CcAnswer.the-variants.{Read, Refused}
@@ -39,10 +39,10 @@ packetOf m =
       echo = numberAt 4 m 24;
     }
 
--- the paper's number and values for each case of the CC reader's answer
-abbrev pub said : CcAnswer → Answer Packet
-said (Read p) = accepted p
-said (Refused n) = refused n
+-- the paper's number, values and place for each case of the CC reader's answer
+abbrev pub said : CcAnswer → Placed Packet
+said (Read p place) = record { answer = accepted p; place = place }
+said (Refused n place) = record { answer = refused n; place = place }
 
 -- the fields that are octets and 32-bit numbers in the code, as its types have them
 pub record Sized (p : Packet) : Type 0 where

@@ -1,7 +1,10 @@
 // The BFD control packet (RFC 5880, 4.1) and the continuity check message that carries it.
+mod place;
 mod read;
 mod write;
 
+pub use place::body_place;
+pub use place::cc_place;
 pub use read::body_refusal;
 pub use read::cc_body_refusal;
 pub use read::cc_refusal;
@@ -30,7 +33,9 @@ pub struct Packet {
     pub echo: u32,
 }
 
+// What reading a CC says, with a place: behind the fields the octets used, behind a refusal where the
+// message went wrong.
 pub enum CcAnswer {
-    Read(Packet),
-    Refused(u32),
+    Read(Packet, usize),
+    Refused(u32, usize),
 }

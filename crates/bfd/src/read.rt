@@ -1,6 +1,7 @@
 // Reading: the refusals in the paper's order, and the fields.
 use crate::CcAnswer;
 use crate::Packet;
+use crate::place::cc_place;
 use gach::CC_CHANNEL;
 use octets::get_u8;
 use octets::get_u32;
@@ -10,7 +11,7 @@ ghost use mathlib.Core.Path.{_≡_};
 ghost use Prim.Native.Nat.{_/_};
 ghost use Rattle.octets.specs.Choice.{answer};
 ghost use Rattle.bfd.specs.Packet.{packetOf, said};
-ghost use Rattle.bfd.specs.Reception.{ruleRefusal, yourRefusal, bodyRefusal, controlRefusal, ccBodyRefusal, ccRefusal, readCc};
+ghost use Rattle.bfd.specs.Reception.{ruleRefusal, yourRefusal, bodyRefusal, controlRefusal, ccBodyRefusal, ccRefusal, ccReading};
 
 // The reception rules that hold on both channels.
 fn rule_refusal(version: u8, flags: u8, multiplier: u8, length: u8, my: u32) -> u32
@@ -116,19 +117,19 @@ pub fn packet_of(m: &[u8]) -> Packet
     }
 }
 
-fn cc_answer(refusal: u32, p: Packet) -> CcAnswer
-    ensures { λ r. ⌜ said r ≡ answer refusal p ⌝ }
+fn cc_answer(refusal: u32, p: Packet, place: usize) -> CcAnswer
+    ensures { λ r. ⌜ said r ≡ record { answer = answer refusal p; place = place } ⌝ }
 {
     if refusal == 0 {
-        CcAnswer::Read(p)
+        CcAnswer::Read(p, place)
     } else {
-        CcAnswer::Refused(refusal)
+        CcAnswer::Refused(refusal, place)
     }
 }
 
-// Reads a CC: its fields, or the first refusal.
+// Reads a CC: its fields, or the first refusal, and the place.
 pub fn read_cc(m: &[u8]) -> CcAnswer
-    ensures { λ r. ⌜ said r ≡ readCc (now (m .entry)) ⌝ }
+    ensures { λ r. ⌜ said r ≡ ccReading (now (m .entry)) ⌝ }
 {
-    cc_answer(cc_refusal(m), packet_of(m))
+    cc_answer(cc_refusal(m), packet_of(m), cc_place(m))
 }

@@ -7,17 +7,17 @@ use mathlib.Core.List.{List, []}
 use lib.ListN.{length, getD, take, drop}
 use lib.Dec.{ltb, eqb}
 use Rattle.octets.specs.Numbers.{numberAt}
-use Rattle.octets.specs.Choice.{need, bar, orElse, Answer, accepted, refused, answer}
-use Rattle.gach.specs.Header.{cvChannel}
+use Rattle.octets.specs.Choice.{need, bar, orElse, Answer, accepted, refused, answer, Placed}
+use Rattle.gach.specs.Header.{cvChannel, channelPlace}
 use Rattle.bfd.specs.declared.Packet.{Packet}
 use Rattle.bfd.specs.Packet.{lengthOf, packetOf}
-use Rattle.bfd.specs.Reception.{bodyRefusal, controlRefusal}
+use Rattle.bfd.specs.Reception.{bodyRefusal, controlRefusal, bodyPlace}
 use Rattle.bfd.specs.Octets.{packetOctets, fieldRefusal}
 use Rattle.cv.specs.declared.MepId.{MepId}
 use Rattle.cv.specs.declared.Verification.{Verification}
 use Rattle.cv.specs.declared.CvAnswer.{CvAnswer}
 use Rattle.cv.specs.declared.CvAnswer.the-variants.{Read, Refused}
-use Rattle.cv.specs.MepId.{mepIdAt, mepOctets, mepRefusal}
+use Rattle.cv.specs.MepId.{mepIdAt, mepOctets, mepRefusal, mepPlace}
 
 -- where the MEP-ID starts
 abbrev pub mepAt : List ℕ → ℕ
@@ -40,14 +40,32 @@ cvBodyRefusal m = orElse (bodyRefusal m) (sourceRefusal m)
 abbrev pub verificationOf : List ℕ → Verification
 verificationOf m = record { packet = packetOf m; mep = mepIdAt m (mepAt m) }
 
--- the paper's number and values for each case of the reader's answer
-abbrev pub said : CvAnswer → Answer Verification
-said (Read v) = accepted v
-said (Refused n) = refused n
+-- the paper's number, values and place for each case of the reader's answer
+abbrev pub said : CvAnswer → Placed Verification
+said (Read v place) = record { answer = accepted v; place = place }
+said (Refused n place) = record { answer = refused n; place = place }
 
 -- what reading a CV says
 unfoldable pub readCv : List ℕ → Answer Verification
 readCv m = answer (cvRefusal m) (verificationOf m)
+
+-- the octets that a CV uses: its packet, and the MEP-ID's type, length and value
+abbrev pub cvEnd : List ℕ → ℕ
+cvEnd m = mepAt m + 4 + numberAt 2 m (mepAt m + 2)
+
+-- behind the packet: the message's length until the whole MEP-ID is there, then the field of it that is refused; else the octets used
+unfoldable pub sourcePlace : List ℕ → ℕ
+sourcePlace m =
+    bar (ltb (length m) (mepAt m + 16)) (length m)
+    (mepPlace (mepAt m) (numberAt 2 m (mepAt m)) (numberAt 2 m (mepAt m + 2)) (cvEnd m))
+
+-- where a CV goes wrong; of an accepted one the octets used
+unfoldable pub cvPlace : List ℕ → ℕ
+cvPlace m = channelPlace cvChannel m (bodyPlace m (sourcePlace m))
+
+-- what the reader of CVs says, and where
+abbrev pub cvReading : List ℕ → Placed Verification
+cvReading m = record { answer = readCv m; place = cvPlace m }
 
 -- the stretch that is handed back: the MEP-ID of an accepted message, type to end; of a refused one the empty part
 unfoldable pub mepPart : List ℕ → List ℕ

@@ -26,6 +26,10 @@ sameMepId a b = eqb (a .kind) (b .kind) && eqb (a .global) (b .global) && eqb (a
 unfoldable pub mepRefusal : ℕ → ℕ → ℕ
 mepRefusal kind len = need (ltb kind 2) 7 (need (eqb len 12) 7 0)
 
+-- where: the type at the MEP-ID's own place `at`, the length two octets behind it; else what follows
+unfoldable pub mepPlace : ℕ → ℕ → ℕ → ℕ → ℕ
+mepPlace at kind len rest = need (ltb kind 2) at (need (eqb len 12) (at + 2) rest)
+
 -- the numbers as the code's types have them
 pub record MepSized (id : MepId) : Type 0 where
   pub kind : id .kind < 256 ^ 2

@@ -1,11 +1,13 @@
 // The connectivity verification message: a BFD control packet and the source MEP-ID behind it.
 mod mep_id;
+mod place;
 mod read;
 mod write;
 
 pub use mep_id::mep_id_at;
 pub use mep_id::mep_octets;
 pub use mep_id::same_mep_id;
+pub use place::cv_place;
 pub use read::cv_body_refusal;
 pub use read::cv_refusal;
 pub use read::mep_part;
@@ -31,7 +33,9 @@ pub struct Verification {
     pub mep: MepId,
 }
 
+// What reading a CV says, with a place: behind the fields the octets used, behind a refusal where the
+// message went wrong.
 pub enum CvAnswer {
-    Read(Verification),
-    Refused(u32),
+    Read(Verification, usize),
+    Refused(u32, usize),
 }

@@ -4,6 +4,7 @@ use crate::MepId;
 use crate::Verification;
 use crate::mep_id::mep_id_at;
 use crate::mep_id::mep_refusal;
+use crate::place::cv_place;
 use gach::CV_CHANNEL;
 use octets::get_u8;
 use octets::get_u16;
@@ -12,10 +13,10 @@ ghost use Prim.Native.Nat.{_+_};
 ghost use lib.ListN.{getD};
 ghost use Rattle.octets.specs.Choice.{answer};
 ghost use Rattle.cv.specs.MepId.{mepIdAt};
-ghost use Rattle.cv.specs.Cv.{mepAt, cvBodyRefusal, cvRefusal, verificationOf, said, readCv, mepPart, partAt};
+ghost use Rattle.cv.specs.Cv.{mepAt, cvBodyRefusal, cvRefusal, verificationOf, said, cvReading, mepPart, partAt};
 
 // Where the MEP-ID starts: right after Length octets.
-fn mep_at(m: &[u8]) -> u16
+pub(crate) fn mep_at(m: &[u8]) -> u16
     ensures { λ r. ⌜ r ≡ mepAt (now (m .entry)) ⌝ }
 {
     4 + get_u8(m, 7) as u16
@@ -58,21 +59,21 @@ fn verification(m: &[u8]) -> Verification
     Verification { packet: p, mep: id }
 }
 
-fn cv_answer(refusal: u32, v: Verification) -> CvAnswer
-    ensures { λ r. ⌜ said r ≡ answer refusal v ⌝ }
+fn cv_answer(refusal: u32, v: Verification, place: usize) -> CvAnswer
+    ensures { λ r. ⌜ said r ≡ record { answer = answer refusal v; place = place } ⌝ }
 {
     if refusal == 0 {
-        CvAnswer::Read(v)
+        CvAnswer::Read(v, place)
     } else {
-        CvAnswer::Refused(refusal)
+        CvAnswer::Refused(refusal, place)
     }
 }
 
-// Reads a CV: its packet and MEP-ID, or the first refusal.
+// Reads a CV: its packet and MEP-ID, or the first refusal, and the place.
 pub fn read_cv(m: &[u8]) -> CvAnswer
-    ensures { λ r. ⌜ said r ≡ readCv (now (m .entry)) ⌝ }
+    ensures { λ r. ⌜ said r ≡ cvReading (now (m .entry)) ⌝ }
 {
-    cv_answer(cv_refusal(m), verification(m))
+    cv_answer(cv_refusal(m), verification(m), cv_place(m))
 }
 
 // The MEP-ID of an accepted message as a part of it, type to end; of a refused one the empty part

@@ -1,0 +1,14 @@
+use Rattle.bfd.specs.Reception.{bodyPlace}
+use Rattle.octets.proofs.Chain.{tests}
+use borrow.Author.Tests.{le-ltb}
+use borrow.Author.Needs.{needs}
+use Rattle.bfd.proofs.place.body_place.Statement.{statement}
+use Rattle.bfd.proofs.place.body_place.Tie as tie
+
+pub body-place-spec : {M : Type 1} → statement M
+unfolding bodyPlace
+body-place-spec =
+    tie.close
+    (tie.spec (λ c. search tests) (λ c κs. search needs) (λ c κs. search needs) (λ c κs. search needs) (λ c κs. search needs)
+    (λ c κs. search needs) (λ c κs. search needs)
+    (λ c. rw (le-ltb _ _ (c .before .before .before .before .before .before .if1 .left)) (cc)))
