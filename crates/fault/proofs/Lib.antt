@@ -3,3 +3,8 @@ pub mod Octets
 pub mod Says
 pub mod RoundTrip
 pub mod Bounds
+pub mod Starts
+pub mod Verdict
+pub mod WalkEnds
+pub mod Earliest
+pub mod Used

@@ -19,7 +19,7 @@ use Rattle.fault.specs.declared.IfId.the-variants.{Absent as NoIfId, Pre
 use Rattle.fault.specs.declared.GlobalId.{GlobalId}
 use Rattle.fault.specs.declared.GlobalId.the-variants.{Absent as NoGlobalId, Present as AGlobalId}
 use Rattle.fault.specs.declared.tlv.Tlvs.{Tlvs}
-use Rattle.fault.specs.Tlvs.{repeated, rightLength, tlvRefusal, withTlv, stepWith, start, tlvsOf}
+use Rattle.fault.specs.Tlvs.{repeated, rightLength, badOctet, withTlv, stepWith, start, tlvsOf}
 use Rattle.fault.specs.Message.{tlvsIn, refusalWith, faultRefusal, fieldsWith, faultOf, readFault}
 use Rattle.fault.specs.Octets.{fieldRefusal, totalOf, headOctets, faultOctets}
 use Rattle.fault.specs.Plain.{SizedIf, SizedGlobal, Sized, PlainTlvs, noTlv, ifAlone, globalAlone, ifThenGlobal, Plain}
@@ -30,21 +30,21 @@ use Rattle.fault.proofs.Says.{RangeSays, range-says, range-passes, Says
 
 abbrev met : ℕ → Bool → ℕ → ℕ → Bool → ℕ → Tlvs
 met at ifid node interface globalid global =
-    record { at = at; refusal = 0; ifid = ifid; node = node; interface = interface; globalid = globalid; global = global }
+    record { at = at; bad = 0; ifid = ifid; node = node; interface = interface; globalid = globalid; global = global }
 
 first-if : (end kind size a b : ℕ) → 19 ≤ end → kind ≡ 1 → size ≡ 8 → stepWith start end kind size a b ≡ met 19 true a b false 0
-unfolding repeated rightLength tlvRefusal withTlv
+unfolding repeated rightLength badOctet withTlv
 first-if end kind size a b h k s =
     rw (k, s, le-ltb end 11 (omega arith), le-ltb end 19 h)
 
 first-global : (end kind size a b : ℕ) → 15 ≤ end → kind ≡ 2 → size ≡ 4 → stepWith start end kind size a b ≡ met 15 false 0 0 true a
-unfolding repeated rightLength tlvRefusal withTlv
+unfolding repeated rightLength badOctet withTlv
 first-global end kind size a b h k s =
     rw (k, s, le-ltb end 11 (omega arith), le-ltb end 15 h)
 
 second-global : (end kind size a b node interface : ℕ) → 25 ≤ end → kind ≡ 2 → size ≡ 4
     → stepWith (met 19 true node interface false 0) end kind size a b ≡ met 25 true node interface true a
-unfolding repeated rightLength tlvRefusal withTlv
+unfolding repeated rightLength badOctet withTlv
 second-global end kind size a b node interface h k s =
     rw (k, s, le-ltb end 21 (omega arith), le-ltb end 25 h)
 

@@ -5,14 +5,14 @@ use mathlib.Core.Bool.{Bool, true, false}
 use mathlib.Core.List.{List}
 use Prim.Native.Nat.{ℕ, zero, suc, _/_, _≤_}
 use lib.ListN.{length, getD}
-use lib.Dec.{ltb, eqb·suc-zero}
+use lib.Dec.{ltb, eqb, eqb·suc-zero}
 use borrow.Author.Tests.{ne-eqb, ltb-false, leb-true, eqb-true, le-ltb, le-leb, eq-eqb}
 use Rattle.octets.specs.Choice.{bar, orElse, accepted, refused}
 use Rattle.octets.proofs.Chain.{need-passed, bar-passed, orElse-passed}
 use Rattle.gach.specs.Header.{faultChannel, channelRefusal}
 use Rattle.gach.proofs.Says.{ChannelSays, channel-says, channel-passes}
 use Rattle.fault.specs.declared.tlv.Tlvs.{Tlvs}
-use Rattle.fault.specs.Message.{rangeRefusal, headRefusal, tlvsEnd, tlvsIn, frontThen, frontRefusal, refusalWith, faultRefusal, fieldsWith, faultOf, readFault}
+use Rattle.fault.specs.Message.{rangeRefusal, headRefusal, tlvsEnd, tlvsIn, frontThen, frontRefusal, tlvsRefusal, refusalWith, faultRefusal, faultOf, readFault}
 
 -- a type and a refresh time that are not refused
 pub record RangeSays (kind refresh : ℕ) : Type 0 where
@@ -64,7 +64,16 @@ says m t e =
       fits = ltb-false _ _ (d .0);
     }
 
-pub passes : (m : List ℕ) (t : Tlvs) → Says m → t .refusal ≡ 0 → refusalWith m t ≡ 0
+pub says-bad : (m : List ℕ) (t : Tlvs) → refusalWith m t ≡ 0 → t .bad ≡ 0
+unfolding refusalWith
+says-bad m t e =
+    let a = orElse-passed (channelRefusal faultChannel m) _ e in
+    let b = bar-passed (ltb (length m) 9) 2 _ (a .1) in
+    let c = orElse-passed (headRefusal m) _ (b .1) in
+    let d = bar-passed (ltb (length m) (tlvsEnd m)) 2 (tlvsRefusal t) (c .1) in
+    eqb-true _ _ (need-passed (eqb (t .bad) 0) 7 0 (d .1) .0)
+
+pub passes : (m : List ℕ) (t : Tlvs) → Says m → t .bad ≡ 0 → refusalWith m t ≡ 0
 unfolding refusalWith headRefusal
 passes m t s e =
     rw (
@@ -93,16 +102,12 @@ pub front-first : (m : List ℕ) (rest : ℕ) → frontThen m rest ≡ orElse (f
 unfolding frontRefusal
 front-first m rest = chained (channelRefusal faultChannel m) (ltb (length m) 9) (headRefusal m) (ltb (length m) (tlvsEnd m)) rest
 
--- what reading says, refused before the TLVs, by a TLV, and read
-module _ (m : List ℕ) where
-  pub refused-in-front : (n : ℕ) → n ≡ frontRefusal m → (n ≡ 0 → ⊥) → refused n ≡ readFault m
-  unfolding readFault faultRefusal refusalWith
-  refused-in-front n e h = rw (front-first m, ← e, ne-eqb n 0 h, ne-eqb n 0 h)
+-- what reading says, refused and read
+module _ (m : List ℕ) (n : ℕ) (e : n ≡ faultRefusal m) where
+  pub refused-with : (n ≡ 0 → ⊥) → refused n ≡ readFault m
+  unfolding readFault
+  refused-with h = rw (← e, ne-eqb n 0 h)
 
-  pub refused-by-tlv : (n : ℕ) → frontRefusal m ≡ 0 → n ≡ tlvsIn m .refusal → (n ≡ 0 → ⊥) → refused n ≡ readFault m
-  unfolding readFault faultRefusal refusalWith
-  refused-by-tlv n z e h = rw (front-first m, z, ← e, ne-eqb n 0 h)
-
-  pub read-whole : frontRefusal m ≡ 0 → tlvsIn m .refusal ≡ 0 → accepted (fieldsWith m (tlvsIn m)) ≡ readFault m
-  unfolding readFault faultRefusal refusalWith faultOf
-  read-whole z e = rw (front-first m, z, e)
+  pub read-whole : n ≡ 0 → accepted (faultOf m) ≡ readFault m
+  unfolding readFault
+  read-whole z = rw (← e, z)

@@ -8,7 +8,7 @@ use native.Mathlib.Omega.{arith}
 use lib.Dec.{ltb, eqb}
 use borrow.Author.Tests.{lt-ltb, le-ltb, ltb-true}
 use Rattle.fault.specs.declared.tlv.Tlvs.{Tlvs}
-use Rattle.fault.specs.Tlvs.{passed, withIf, withGlobal, withTlv, ended, tlvRefusal, stepWith, step, walk, start, tlvsOf}
+use Rattle.fault.specs.Tlvs.{passed, withIf, withGlobal, withTlv, ended, badOctet, stepWith, step, walk, start, tlvsOf}
 
 -- whatever the tests say, the place goes forward
 any : (t : Tlvs) (n end size a b : ℕ) (fine isIf isGlobal : Bool) → t .at < end
@@ -21,7 +21,7 @@ any t n end size a b false isIf isGlobal h = h
 pub forward : (t : Tlvs) (end kind size a b : ℕ) → t .at < end → t .at < stepWith t end kind size a b .at
 unfolding withTlv
 forward t end kind size a b h =
-    any t (tlvRefusal t end kind size) end size a b (eqb (tlvRefusal t end kind size) 0) (eqb kind 1) (eqb kind 2) h
+    any t (badOctet t end kind size) end size a b (eqb (badOctet t end kind size) 0) (eqb kind 1) (eqb kind 2) h
 
 same : (q : Bool) (x y t : Tlvs) → (q ≡ true → x ≡ y) → cond q x t ≡ cond q y t
 same true x y t e = e refl
@@ -32,7 +32,7 @@ module _ (m : List ℕ) (end : ℕ) where
   stays zero t h = refl
   stays (suc k) t h = rw (le-ltb (t .at) end h)
 
-  turn : (k : ℕ) (t : Tlvs) → t .at < end → walk (suc k) m end t ≡ walk k m end (step m end t)
+  pub turn : (k : ℕ) (t : Tlvs) → t .at < end → walk (suc k) m end t ≡ walk k m end (step m end t)
   turn k t h = rw (lt-ltb (t .at) end h)
 
   pub enough : (k j : ℕ) (t : Tlvs) → end - t .at ≤ k → end - t .at ≤ j → walk k m end t ≡ walk j m end t

@@ -5,8 +5,8 @@ use mathlib.Core.List.{List}
 use mathlib.Core.Bool.{Bool, cond}
 use lib.ListN.{length, getD}
 use lib.Dec.{ltb, leb, eqb}
-use Rattle.octets.specs.Choice.{need, bar, orElse, Answer, accepted, refused, answer}
-use Rattle.gach.specs.Header.{faultChannel, channelRefusal}
+use Rattle.octets.specs.Choice.{need, bar, orElse, Answer, accepted, refused, answer, Placed}
+use Rattle.gach.specs.Header.{faultChannel, channelRefusal, channelPlace}
 use Rattle.fault.specs.declared.Fault.{Fault}
 use Rattle.fault.specs.declared.IfId.{IfId}
 use Rattle.fault.specs.declared.IfId.the-variants.{Absent as NoIfId, Present as AnIfId}
@@ -17,10 +17,10 @@ use Rattle.fault.specs.declared.FaultAnswer.the-variants.{Read, Refused}
 use Rattle.fault.specs.declared.tlv.Tlvs.{Tlvs}
 use Rattle.fault.specs.Tlvs.{tlvsOf}
 
--- the paper's answer for each case
-abbrev pub said : FaultAnswer → Answer Fault
-said (Read f) = accepted f
-said (Refused n) = refused n
+-- the paper's answer and place for each case
+abbrev pub said : FaultAnswer → Placed Fault
+said (Read f place) = record { answer = accepted f; place = place }
+said (Refused n place) = record { answer = refused n; place = place }
 
 -- the refusal n unless the type is 1 (AIS) or 2 (LKR) and the refresh time 1 to 20 seconds
 unfoldable pub rangeRefusal : ℕ → ℕ → ℕ → ℕ
@@ -53,9 +53,12 @@ frontThen m rest =
 unfoldable pub frontRefusal : List ℕ → ℕ
 frontRefusal m = frontThen m 0
 
--- and with 8 for a TLV
+-- and with 8 where an octet of a TLV is wrong
+abbrev pub tlvsRefusal : Tlvs → ℕ
+tlvsRefusal t = need (eqb (t .bad) 0) 8 0
+
 unfoldable pub refusalWith : List ℕ → Tlvs → ℕ
-refusalWith m t = frontThen m (t .refusal)
+refusalWith m t = frontThen m (tlvsRefusal t)
 
 unfoldable pub faultRefusal : List ℕ → ℕ
 faultRefusal m = refusalWith m (tlvsIn m)
@@ -85,3 +88,38 @@ faultOf m = fieldsWith m (tlvsIn m)
 
 unfoldable pub readFault : List ℕ → Answer Fault
 readFault m = answer (faultRefusal m) (faultOf m)
+
+-- the octet `at`, whose number is not 1 to `most`; else what follows
+abbrev pub rangePlace : ℕ → ℕ → ℕ → ℕ → ℕ
+rangePlace number most at rest = need (leb 1 number) at (need (leb number most) at rest)
+
+-- where the head goes wrong: version 4, type 5, refresh time 7; else what follows
+unfoldable pub headPlace : List ℕ → ℕ → ℕ
+headPlace m rest =
+    need (eqb (getD m 4 0 / 16) 1) 4
+    (rangePlace (getD m 5 0) 2 5
+    (rangePlace (getD m 7 0) 20 7 rest))
+
+-- 3 is told with the length of the message
+abbrev pub cutPlace : List ℕ → ℕ → ℕ → ℕ
+cutPlace m end rest = bar (ltb (length m) end) (length m) rest
+
+-- before the TLVs, in the order of the refusals
+unfoldable pub frontPlace : List ℕ → ℕ → ℕ
+frontPlace m rest =
+    channelPlace faultChannel m
+    (cutPlace m 9
+    (headPlace m
+    (cutPlace m (tlvsEnd m) rest)))
+
+-- then at the wrong octet of a TLV, and else the octets used
+unfoldable pub placeWith : List ℕ → Tlvs → ℕ
+placeWith m t = frontPlace m (orElse (t .bad) (tlvsEnd m))
+
+-- where a fault message goes wrong; of an accepted one the octets used
+unfoldable pub faultPlace : List ℕ → ℕ
+faultPlace m = placeWith m (tlvsIn m)
+
+-- what the reader of fault messages says, and where
+abbrev pub faultReading : List ℕ → Placed Fault
+faultReading m = record { answer = readFault m; place = faultPlace m }

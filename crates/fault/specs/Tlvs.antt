@@ -18,21 +18,21 @@ repeated t kind = cond (eqb kind 1) (t .ifid) (cond (eqb kind 2) (t .globalid) f
 unfoldable pub rightLength : ℕ → ℕ → Bool
 rightLength kind size = cond (eqb kind 1) (eqb size 8) (cond (eqb kind 2) (eqb size 4) true)
 
--- a TLV at the place t .at, of the TLVs that end at `end`: one stray octet, too short for type and length; a repeated type 1 or 2;
--- a value that goes past the end; a wrong length for type 1 or 2
-unfoldable pub tlvRefusal : Tlvs → ℕ → ℕ → ℕ → ℕ
-tlvRefusal t end kind size =
-    bar (ltb end (t .at + 2)) 8
-    (bar (repeated t kind) 8
-    (bar (ltb end (t .at + 2 + size)) 8
-    (need (rightLength kind size) 8 0)))
+-- the octet that is wrong in a TLV at the place t .at, of the TLVs that end at `end`, and 0 where none is. Its type octet where it is one stray octet, too
+-- short for type and length, where it is a repeated type 1 or 2, and where its value goes past the end; its length octet for a wrong length of type 1 or 2
+unfoldable pub badOctet : Tlvs → ℕ → ℕ → ℕ → ℕ
+badOctet t end kind size =
+    bar (ltb end (t .at + 2)) (t .at)
+    (bar (repeated t kind) (t .at)
+    (bar (ltb end (t .at + 2 + size)) (t .at)
+    (need (rightLength kind size) (t .at + 1) 0)))
 
 -- the place t .at moved behind a TLV whose value has `size` octets
 abbrev pub passed : Tlvs → ℕ → Tlvs
 passed t size =
     record {
       at = t .at + 2 + size;
-      refusal = t .refusal;
+      bad = t .bad;
       ifid = t .ifid;
       node = t .node;
       interface = t .interface;
@@ -45,7 +45,7 @@ abbrev pub withIf : Tlvs → ℕ → ℕ → Tlvs
 withIf t a b =
     record {
       at = t .at;
-      refusal = t .refusal;
+      bad = t .bad;
       ifid = true;
       node = a;
       interface = b;
@@ -58,7 +58,7 @@ abbrev pub withGlobal : Tlvs → ℕ → Tlvs
 withGlobal t a =
     record {
       at = t .at;
-      refusal = t .refusal;
+      bad = t .bad;
       ifid = t .ifid;
       node = t .node;
       interface = t .interface;
@@ -73,12 +73,12 @@ withTlv t kind size a b =
     (cond (eqb kind 2) (withGlobal (passed t size) a)
     (passed t size))
 
--- the walk ends with the refusal n
+-- the walk ends at a wrong octet
 abbrev pub ended : ℕ → ℕ → Tlvs → Tlvs
-ended n end t =
+ended octet end t =
     record {
       at = end;
-      refusal = n;
+      bad = octet;
       ifid = t .ifid;
       node = t .node;
       interface = t .interface;
@@ -86,13 +86,13 @@ ended n end t =
       global = t .global;
     }
 
--- behind a TLV with the refusal n: on, or the end
+-- behind a TLV: on, or at its wrong octet the end
 abbrev pub after : ℕ → ℕ → Tlvs → Tlvs → Tlvs
-after n end t next = cond (eqb n 0) next (ended n end t)
+after octet end t next = cond (eqb octet 0) next (ended octet end t)
 
 -- one TLV of type `kind` and length `size`
 abbrev pub stepWith : Tlvs → ℕ → ℕ → ℕ → ℕ → ℕ → Tlvs
-stepWith t end kind size a b = after (tlvRefusal t end kind size) end t (withTlv t kind size a b)
+stepWith t end kind size a b = after (badOctet t end kind size) end t (withTlv t kind size a b)
 
 -- the TLV at the place t .at
 abbrev pub step : List ℕ → ℕ → Tlvs → Tlvs
@@ -105,7 +105,7 @@ walk zero m end t = t
 walk (suc k) m end t = cond (ltb (t .at) end) (walk k m end (step m end t)) t
 
 abbrev pub start : Tlvs
-start = record { at = 9; refusal = 0; ifid = false; node = 0; interface = 0; globalid = false; global = 0 }
+start = record { at = 9; bad = 0; ifid = false; node = 0; interface = 0; globalid = false; global = 0 }
 
 -- the TLVs from octet 9 to the end: no TLV is empty, so there are at most as many as octets
 unfoldable pub tlvsOf : List ℕ → ℕ → Tlvs

@@ -1,8 +1,10 @@
 // The fault message of RFC 6427: read, and written in its plain form.
+mod place;
 mod read;
 mod tlv;
 mod write;
 
+pub use place::fault_place;
 pub use read::fault_fields;
 pub use read::fault_refusal;
 pub use read::read_fault;
@@ -32,8 +34,9 @@ pub struct Fault {
     pub global: GlobalId,
 }
 
-// What reading says: the fields, or the refusal.
+// What reading says, with a place: the fields and the octets used, or the refusal and where the
+// message went wrong.
 pub enum FaultAnswer {
-    Read(Fault),
-    Refused(u32),
+    Read(Fault, usize),
+    Refused(u32, usize),
 }

@@ -3,6 +3,7 @@ use crate::Fault;
 use crate::FaultAnswer;
 use crate::GlobalId;
 use crate::IfId;
+use crate::place::place_with;
 use crate::tlv::Tlvs;
 use crate::tlv::read_tlvs;
 use gach::FAULT_CHANNEL;
@@ -11,7 +12,7 @@ use octets::get_u8;
 use octets::need;
 use octets::or_else;
 ghost use mathlib.Core.Path.{_≡_};
-ghost use Rattle.fault.specs.Message.{said, ifIdOf, globalIdOf, rangeRefusal, headRefusal, frontRefusal, refusalWith, fieldsWith, faultRefusal, faultOf, readFault};
+ghost use Rattle.fault.specs.Message.{said, ifIdOf, globalIdOf, rangeRefusal, headRefusal, frontRefusal, tlvsRefusal, refusalWith, fieldsWith, faultRefusal, faultOf, faultReading};
 
 // The refusal n for a type other than 1 and 2 or a refresh time other than 1 to 20 seconds.
 pub(crate) fn range_refusal(n: u32, kind: u8, refresh: u8) -> u32
@@ -51,10 +52,17 @@ fn front_refusal(m: &[u8]) -> u32
     0
 }
 
+// 8 where an octet of a TLV is wrong.
+fn tlvs_refusal(t: Tlvs) -> u32
+    ensures { λ r. ⌜ r ≡ tlvsRefusal t ⌝ }
+{
+    need(t.bad == 0, 8, 0)
+}
+
 fn refusal_with(m: &[u8], t: Tlvs) -> u32
     ensures { λ r. ⌜ r ≡ refusalWith (now (m .entry)) t ⌝ }
 {
-    or_else(front_refusal(m), t.refusal)
+    or_else(front_refusal(m), tlvs_refusal(t))
 }
 
 fn if_id(present: bool, node: u32, interface: u32) -> IfId
@@ -105,19 +113,17 @@ pub fn fault_fields(m: &[u8]) -> Fault
     fields_with(m, read_tlvs(m, get_u8(m, 8)))
 }
 
-// A fault message, read: its fields, or the first refusal. Bytes behind it are not looked at.
+// A fault message, read: its fields, or the first refusal, and the place. Octets behind it are not
+// looked at.
 pub fn read_fault(m: &[u8]) -> FaultAnswer
-    ensures { λ r. ⌜ said r ≡ readFault (now (m .entry)) ⌝ }
+    ensures { λ r. ⌜ said r ≡ faultReading (now (m .entry)) ⌝ }
 {
-    let n = front_refusal(m);
-    if n != 0 {
-        return FaultAnswer::Refused(n);
-    }
     let t = read_tlvs(m, get_u8(m, 8));
-    let tlv = t.refusal;
-    if tlv != 0 {
-        return FaultAnswer::Refused(tlv);
+    let place = place_with(m, t);
+    let n = refusal_with(m, t);
+    if n != 0 {
+        return FaultAnswer::Refused(n, place);
     }
     let f = fields_with(m, t);
-    FaultAnswer::Read(f)
+    FaultAnswer::Read(f, place)
 }

@@ -3,14 +3,14 @@ use octets::get_u8;
 use octets::get_u32;
 ghost use mathlib.Core.Path.{_≡_};
 ghost use Prim.Native.Nat.{_+_, _<_};
-ghost use Rattle.fault.specs.Tlvs.{repeated, rightLength, tlvRefusal, passed, withIf, withGlobal, ended, step, tlvsOf};
+ghost use Rattle.fault.specs.Tlvs.{repeated, rightLength, badOctet, passed, withIf, withGlobal, ended, step, tlvsOf};
 
-// What the TLVs before the place `at` said. refusal is 0 or 8; ifid and globalid tell whether an
-// IF_ID and a Global_ID were among them, and node, interface and global are 0 until then. The total
-// length is one octet, so a TLV starts below 9 + 256.
+// What the TLVs before the place `at` said. bad is 0, or the octet that is wrong, 9 at least; ifid
+// and globalid tell whether an IF_ID and a Global_ID were among them, and node, interface and global
+// are 0 until then. The total length is one octet, so a TLV starts below 9 + 256.
 pub(crate) struct Tlvs {
     pub at: u16,
-    pub refusal: u32,
+    pub bad: u16,
     pub ifid: bool,
     pub node: u32,
     pub interface: u32,
@@ -42,25 +42,25 @@ fn has_right_length(kind: u8, size: u8) -> bool
     true
 }
 
-// The refusal of the TLV of this type and length at t.at.
-fn tlv_refusal(t: Tlvs, end: u16, kind: u8, size: u8) -> u32
+// The octet that is wrong in the TLV of this type and length at t.at; 0 where none is.
+fn bad_octet(t: Tlvs, end: u16, kind: u8, size: u8) -> u16
     requires { ⌜ t .at < 265 ⌝ }
-    ensures { λ r. ⌜ r ≡ tlvRefusal t end kind size ⌝ }
+    ensures { λ r. ⌜ r ≡ badOctet t end kind size ⌝ }
 {
-    let value = t.at + 2;
-    if end < value {
-        return 8;
+    let at = t.at;
+    if end < at + 2 {
+        return at;
     }
     if is_repeated(t, kind) {
-        return 8;
+        return at;
     }
-    if end < value + size as u16 {
-        return 8;
+    if end < at + 2 + size as u16 {
+        return at;
     }
     if has_right_length(kind, size) {
         return 0;
     }
-    8
+    at + 1
 }
 
 fn pass_tlv(t: Tlvs, size: u8) -> Tlvs
@@ -72,12 +72,12 @@ fn pass_tlv(t: Tlvs, size: u8) -> Tlvs
     r
 }
 
-fn end_with(n: u32, end: u16, t: Tlvs) -> Tlvs
-    ensures { λ r. ⌜ r ≡ ended n end t ⌝ }
+fn end_with(octet: u16, end: u16, t: Tlvs) -> Tlvs
+    ensures { λ r. ⌜ r ≡ ended octet end t ⌝ }
 {
     let mut r = t;
     r.at = end;
-    r.refusal = n;
+    r.bad = octet;
     r
 }
 
@@ -100,7 +100,7 @@ fn with_global(t: Tlvs, global: u32) -> Tlvs
     r
 }
 
-// The walk goes on behind the TLV at t.at, or ends with its refusal. The value of a TLV that is
+// The walk goes on behind the TLV at t.at, or ends at its wrong octet. The value of a TLV that is
 // passed over is not read.
 fn step_tlv(m: &[u8], end: u16, t: Tlvs) -> Tlvs
     requires { ⌜ t .at < 265 ⌝ }
@@ -109,9 +109,9 @@ fn step_tlv(m: &[u8], end: u16, t: Tlvs) -> Tlvs
     let at = t.at as usize;
     let kind = get_u8(m, at);
     let size = get_u8(m, at + 1);
-    let n = tlv_refusal(t, end, kind, size);
-    if n != 0 {
-        return end_with(n, end, t);
+    let octet = bad_octet(t, end, kind, size);
+    if octet != 0 {
+        return end_with(octet, end, t);
     }
     let next = pass_tlv(t, size);
     if kind == 1 {
@@ -130,7 +130,7 @@ pub(crate) fn read_tlvs(m: &[u8], total: u8) -> Tlvs
     let end = 9 + total as u16;
     let mut t = Tlvs {
         at: 9,
-        refusal: 0,
+        bad: 0,
         ifid: false,
         node: 0,
         interface: 0,

@@ -8,10 +8,10 @@ use Rattle.octets.specs.Choice.{orElse}
 use Rattle.gach.specs.Header.{ccChannel, cvChannel, channelOf, headerRefusal}
 use Rattle.gach.specs.Kinds.{kindRefusal}
 use Rattle.bfd.specs.Packet.{packetOf}
-use Rattle.bfd.specs.Reception.{ccRefusal}
+use Rattle.bfd.specs.Reception.{ccRefusal, ccPlace}
 use Rattle.cv.specs.MepId.{mepIdAt}
-use Rattle.cv.specs.Cv.{cvRefusal, mepPart}
-use Rattle.fault.specs.Message.{faultRefusal, faultOf}
+use Rattle.cv.specs.Cv.{cvRefusal, mepPart, cvPlace}
+use Rattle.fault.specs.Message.{faultRefusal, faultOf, faultPlace}
 use Rattle.message.specs.declared.Message.{Message}
 use Rattle.message.specs.declared.Message.the-variants.{ContinuityCheck, ConnectivityVerification, FaultManagement}
 
@@ -32,3 +32,8 @@ messageOf m =
     (ContinuityCheck (packetOf m))
     (ConnectivityVerification (packetOf m) (mepIdAt (mepPart m) 0))
     (FaultManagement (faultOf m))
+
+-- where a message of any kind goes wrong, or the octets that it uses: as the reader of its kind has it. Of a channel that is none of the three, and of a message
+-- too short to have one, each reader says the same
+unfoldable pub messagePlace : List ℕ → ℕ
+messagePlace m = byChannel (channelOf m) (ccPlace m) (cvPlace m) (faultPlace m)

@@ -260,8 +260,8 @@ pub fn fault_act(s: Session, m: &[u8], reading: u64) -> Faulted
 {
     let a = fault::read_fault(m);
     match a {
-        FaultAnswer::Read(f) => fault_by(s, reading, f),
-        FaultAnswer::Refused(n) => fault_refused(s, n),
+        FaultAnswer::Read(f, _) => fault_by(s, reading, f),
+        FaultAnswer::Refused(n, _) => fault_refused(s, n),
     }
 }
 

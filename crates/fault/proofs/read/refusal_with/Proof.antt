@@ -1,5 +1,5 @@
 use mathlib.Core.Path.{sym, _∙_}
-use Rattle.fault.specs.Message.{refusalWith}
+use Rattle.fault.specs.Message.{tlvsRefusal, refusalWith}
 use Rattle.fault.proofs.Says.{front-first}
 use borrow.Author.Needs.{needs}
 use Rattle.fault.proofs.read.refusal_with.Statement.{statement}
@@ -8,10 +8,11 @@ use Rattle.fault.proofs.read.refusal_with.Tie as tie
 returns : tie.Need-returns
 unfolding refusalWith
 returns c =
-    let a = c .before .before .before .args in
-    c .or-else .ensures ∙ rw (c .before .front-refusal .ensures) (sym (front-first (a .m .now) (a .t .refusal)))
+    let a = c .before .before .before .before .args in
+    c .or-else .ensures
+    ∙ rw (c .before .tlvs-refusal .ensures, c .before .before .front-refusal .ensures) (sym (front-first (a .m .now) (tlvsRefusal (a .t))))
 
 pub refusal-with-spec : {M : Type 1} → statement M
 refusal-with-spec =
     tie.close
-    (tie.spec (λ c κs. search needs) (λ c κs. search needs) returns)
+    (tie.spec (λ c κs. search needs) (λ c κs. search needs) (λ c κs. search needs) returns)
