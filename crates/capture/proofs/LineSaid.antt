@@ -1,4 +1,4 @@
--- A line has one of three shapes, whatever is called and whatever is said. Octets that are written over a buffer of their length are the buffer.
+-- A line has one of four shapes, whatever is called and whatever is said. Octets that are written over a buffer of their length are the buffer.
 -- Assumes nothing.
 use Prim.Native.Nat.{ℕ, _≤_}
 use native.Mathlib.Omega.{arith}
@@ -6,14 +6,16 @@ use mathlib.Core.Path.{_≡_, refl, _∙_}
 use mathlib.Core.Bool.{Bool, true, false, cond}
 use mathlib.Core.List.{List, [], append-nil}
 use lib.ListN.{length, drop, drop-of-length-le}
-use lib.Dec.{eqb}
-use borrow.Author.Tests.{ne-eqb}
+use lib.Dec.{eqb, leb}
+use borrow.Author.Tests.{ne-eqb, leb-true}
 use Rattle.octets.specs.Writing.{writing}
 use Rattle.octets.proofs.Writing.{fits}
 use Rattle.rules.specs.Calls.{Act, Close, Lock, Unlock, Receive, ReportOn, WriteCc, WriteCv, Call, Tick, Open, On, Said}
-use Rattle.capture.specs.Lines.{answerText, callText, plainLine, reportLine, octetsLine, line}
+use Rattle.message.specs.Message.{messagePlace}
+use Rattle.rules.proofs.Bools.{split, no-way}
+use Rattle.capture.specs.Lines.{answerText, callText, isReaders, placeText, plainLine, placedLine, reportLine, octetsLine, line}
 
--- calls whose answer is a number alone
+-- calls behind whose 0 nothing stands
 abbrev pub isPlain : Call → Bool
 isPlain (Tick u) = true
 isPlain (Open g u) = true
@@ -36,21 +38,56 @@ plain-text (On l ReportOn) a p = absurd (let z : _≡_ {A = ℕ} 0 1 = cc in ome
 plain-text (On l (WriteCc b)) a p = absurd (let z : _≡_ {A = ℕ} 0 1 = cc in omega arith)
 plain-text (On l (WriteCv b)) a p = absurd (let z : _≡_ {A = ℕ} 0 1 = cc in omega arith)
 
+-- refusals behind which a place stands
+abbrev pub hasPlace : Call → ℕ → Bool
+hasPlace (Tick u) n = false
+hasPlace (Open g u) n = false
+hasPlace (On l (Close u)) n = false
+hasPlace (On l (Lock u)) n = false
+hasPlace (On l (Unlock u)) n = false
+hasPlace (On l (Receive m u)) n = isReaders n
+hasPlace (On l ReportOn) n = false
+hasPlace (On l (WriteCc b)) n = false
+hasPlace (On l (WriteCv b)) n = false
+
+no-place : (c : Call) (n : ℕ) → hasPlace c n ≡ false → placeText c n ≡ []
+no-place (Tick u) n p = refl
+no-place (Open g u) n p = refl
+no-place (On l (Close u)) n p = refl
+no-place (On l (Lock u)) n p = refl
+no-place (On l (Unlock u)) n p = refl
+no-place (On l (Receive m u)) n p = rw p
+no-place (On l ReportOn) n p = refl
+no-place (On l (WriteCc b)) n p = refl
+no-place (On l (WriteCv b)) n p = refl
+
 either-none : (b : Bool) → _≡_ {A = List ℕ} (cond b [] []) []
 either-none true = refl
 either-none false = refl
 
+-- no reader refuses with 0
+readers-above : (n : ℕ) → isReaders n ≡ true → n ≡ 0 → ⊥
+readers-above n r z =
+    split (leb 3 n)
+    (λ h. omega (arith, leb-true 3 n h, z))
+    (λ h. no-way r (rw h))
+
 module _ (number : ℕ) where
-  -- a refusal
-  pub line-refused : (c : Call) (a : Said) → (a .number ≡ 0 → ⊥) → line number c a ≡ plainLine number (a .number)
+  -- a refusal with no place
+  pub line-refused : (c : Call) (a : Said) → (a .number ≡ 0 → ⊥) → hasPlace c (a .number) ≡ false → line number c a ≡ plainLine number (a .number)
   unfolding line plainLine
-  line-refused c a z = rw (ne-eqb (a .number) 0 z, append-nil (answerText number (a .number)))
+  line-refused c a z p = rw (ne-eqb (a .number) 0 z, no-place c (a .number) p, append-nil (answerText number (a .number)))
 
   -- a call whose answer is a number alone
-  pub line-plain : (c : Call) (a : Said) → isPlain c ≡ true → line number c a ≡ plainLine number (a .number)
+  pub line-plain : (c : Call) (a : Said) → isPlain c ≡ true → hasPlace c (a .number) ≡ false → line number c a ≡ plainLine number (a .number)
   unfolding line plainLine
-  line-plain c a p =
-      rw (plain-text c a p, either-none (eqb (a .number) 0), append-nil (answerText number (a .number)))
+  line-plain c a p q =
+      rw (plain-text c a p, no-place c (a .number) q, either-none (eqb (a .number) 0), append-nil (answerText number (a .number)))
+
+  -- a message that its reader refuses
+  pub line-placed : (l : ℕ) (m : List ℕ) (u : ℕ) (a : Said) → isReaders (a .number) ≡ true → line number (On l (Receive m u)) a ≡ placedLine number (a .number) (messagePlace m)
+  unfolding line placedLine
+  line-placed l m u a r = rw (ne-eqb (a .number) 0 (readers-above (a .number) r), r)
 
   module _ (l : ℕ) (a : Said) (z : a .number ≡ 0) where
     pub line-report : line number (On l ReportOn) a ≡ reportLine number (a .report)

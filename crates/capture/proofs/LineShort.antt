@@ -1,4 +1,4 @@
--- No line is longer than 160 octets: the three shapes, and every line for what a table answers.
+-- No line is longer than 160 octets: the four shapes, and every line for what a table answers.
 -- Assumes nothing.
 use Prim.Native.Nat.{ℕ, _+_, _*_, _≤_, _<_}
 use native.Mathlib.Omega.{arith}
@@ -12,6 +12,7 @@ use borrow.Author.Tests.{ltb-true, ltb-false}
 use Rattle.octets.specs.Choice.{bitOf}
 use Rattle.octets.specs.Writing.{writing}
 use Rattle.octets.proofs.Writing.{short, fits}
+use Rattle.message.specs.Message.{messagePlace}
 use Rattle.rules.specs.declared.State.{State}
 use Rattle.rules.specs.declared.State.the-variants.{AdminDown, Down, NeighborDown, Init, Up}
 use Rattle.rules.specs.States.{reported}
@@ -22,7 +23,7 @@ use Rattle.conditions.specs.Standing.{countAt}
 use Rattle.session.specs.declared.Session.{Session}
 use Rattle.session.specs.Queries.{lockedIn, crossingAt, lossAt, stateAt, reportAt, ccOctetsAt, cvOctetsAt}
 use Rattle.table.specs.Table.{Table, openOf, find, inOrder, actAnswer, reportAnswer, writeAnswer, asked, answer}
-use Rattle.capture.specs.Lines.{digits, hex, spaced, sevenNumbers, answerText, callText, plainLine, reportLine, octetsLine, line}
+use Rattle.capture.specs.Lines.{digits, hex, spaced, sevenNumbers, answerText, callText, placeText, isReaders, plainLine, placedLine, reportLine, octetsLine, line}
 use Rattle.capture.proofs.Digits.{digits-short, one-digit}
 use Rattle.capture.proofs.LineSaid.{Exact}
 
@@ -90,6 +91,14 @@ pub octets-short : (number : ℕ) (octets : List ℕ) → length octets ≤ 44 �
 unfolding octetsLine
 octets-short number octets h = parts-short number 0 (32 ∷ hex octets) (hex-short octets h)
 
+-- a space and a number
+spaced-short : (n : ℕ) → length (spaced n) ≤ 89
+spaced-short n = omega (arith, digits-short 20 n)
+
+pub placed-short : (number answer place : ℕ) → length (placedLine number answer place) ≤ 160
+unfolding placedLine
+placed-short number answer place = parts-short number answer (spaced place) (spaced-short place)
+
 -- ---- what a table answers, where a lent buffer has the length of what is written
 -- writing keeps a buffer's length
 written-length : (octets b : List ℕ) → length (writing 0 octets b .buffer) ≡ length b
@@ -134,10 +143,25 @@ text-short t (On l (WriteCv b)) x =
     (λ e. rw e (write-said (On l (WriteCv b)) b (λ r. cvOctetsAt r (t .clock)) (omega (arith, x)) (find l (openOf t)) refl))
     (λ e. rw e (hex-short b (omega (arith, x))))
 
+-- whatever the number
+place-short : (c : Call) (n : ℕ) → length (placeText c n) ≤ 89
+place-short (Tick u) n = omega arith
+place-short (Open g u) n = omega arith
+place-short (On l (Close u)) n = omega arith
+place-short (On l (Lock u)) n = omega arith
+place-short (On l (Unlock u)) n = omega arith
+place-short (On l (Receive m u)) n =
+    split (isReaders n)
+    (λ r. rw r (spaced-short (messagePlace m)))
+    (λ r. rw r (omega arith))
+place-short (On l ReportOn) n = omega arith
+place-short (On l (WriteCc b)) n = omega arith
+place-short (On l (WriteCv b)) n = omega arith
+
 pub line-short : (number : ℕ) (t : Table) (c : Call) → Exact c → length (line number c (answer t c)) ≤ 160
 unfolding line
 line-short number t c x =
     let a = answer t c in
     split (eqb (a .number) 0)
     (λ e. rw e (parts-short number (a .number) (callText c a) (text-short t c x)))
-    (λ e. rw e (parts-short number (a .number) [] (omega arith)))
+    (λ e. rw e (parts-short number (a .number) (placeText c (a .number)) (place-short c (a .number))))

@@ -1,9 +1,10 @@
 -- The line that `watch` prints for an answer, as octets, and its number.
 -- Assumes nothing.
 use Prim.Native.Nat.{ℕ, zero, suc, _+_, _/_, _%_}
-use mathlib.Core.Bool.{cond}
+use mathlib.Core.Bool.{Bool, cond, _&&_}
 use mathlib.Core.List.{List, [], _∷_, _++_}
-use lib.Dec.{eqb, ltb}
+use lib.Dec.{eqb, ltb, leb}
+use Rattle.message.specs.Message.{messagePlace}
 use Rattle.rules.specs.declared.Report.{Report}
 use Rattle.rules.specs.Calls.{Act, Close, Lock, Unlock, Receive, ReportOn, WriteCc, WriteCv, Call, Tick, Open, On, Said}
 
@@ -47,11 +48,30 @@ callText (Tick u) a = []
 callText (Open g u) a = []
 callText (On l act) a = actText act a
 
--- record number and answer; after a report's 0 its seven numbers, after a write's 0 the octets in hex
-unfoldable pub line : ℕ → Call → Said → List ℕ
-line number c a = decimal number ++ spaced (a .number) ++ cond (eqb (a .number) 0) (callText c a) [] ++ 10 ∷ []
+-- 3 to 8: what a reader refuses a message with
+abbrev pub isReaders : ℕ → Bool
+isReaders n = leb 3 n && leb n 8
 
--- the three shapes of a line. A record's number and its answer, with nothing behind them
+-- what stands behind a refusal n: where the message went wrong, behind a receive's 3 to 8
+abbrev pub actPlace : Act → ℕ → List ℕ
+actPlace (Close u) n = []
+actPlace (Lock u) n = []
+actPlace (Unlock u) n = []
+actPlace (Receive m u) n = cond (isReaders n) (spaced (messagePlace m)) []
+actPlace ReportOn n = []
+actPlace (WriteCc b) n = []
+actPlace (WriteCv b) n = []
+
+abbrev pub placeText : Call → ℕ → List ℕ
+placeText (Tick u) n = []
+placeText (Open g u) n = []
+placeText (On l act) n = actPlace act n
+
+-- record number and answer; after a report's 0 its seven numbers, after a write's 0 the octets in hex, after a receive's 3 to 8 the place
+unfoldable pub line : ℕ → Call → Said → List ℕ
+line number c a = decimal number ++ spaced (a .number) ++ cond (eqb (a .number) 0) (callText c a) (placeText c (a .number)) ++ 10 ∷ []
+
+-- the four shapes of a line. A record's number and its answer, with nothing behind them
 abbrev pub answerText : ℕ → ℕ → List ℕ
 answerText number answer = decimal number ++ spaced answer
 
@@ -65,6 +85,10 @@ reportLine number r = answerText number 0 ++ sevenNumbers r ++ 10 ∷ []
 -- with octets in hex behind a 0
 unfoldable pub octetsLine : ℕ → List ℕ → List ℕ
 octetsLine number octets = answerText number 0 ++ (32 ∷ hex octets) ++ 10 ∷ []
+
+-- with a place behind a refusal
+unfoldable pub placedLine : ℕ → ℕ → ℕ → List ℕ
+placedLine number answer place = answerText number answer ++ spaced place ++ 10 ∷ []
 
 -- the number of the record behind that of number n. Numbers stay at the largest that 64 bits hold
 abbrev pub numbered : ℕ → ℕ

@@ -4,6 +4,7 @@ mod lines;
 mod records;
 
 pub use lines::put_decimal;
+pub use lines::put_placed;
 pub use lines::put_plain;
 pub use lines::put_reported;
 pub use lines::put_words;

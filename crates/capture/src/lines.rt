@@ -5,7 +5,7 @@ ghost use mathlib.Core.Path.{_≡_};
 ghost use Prim.Native.Nat.{_+_, _*_, _%_, _≤_};
 ghost use lib.Dec.{leb};
 ghost use lib.ListN.{length};
-ghost use Rattle.capture.specs.Lines.{digits, decimal, hexDigit, hex, spaced, sevenNumbers, answerText, plainLine, reportLine, octetsLine};
+ghost use Rattle.capture.specs.Lines.{digits, decimal, hexDigit, hex, spaced, sevenNumbers, answerText, plainLine, placedLine, reportLine, octetsLine};
 ghost use Rattle.capture.specs.Typing.{pushed, typed};
 
 // One octet.
@@ -212,6 +212,15 @@ pub fn put_plain(out: &mut [u8], at: usize, number: u64, answer: u32) -> usize
 {
     let next = put_answer(&mut *out, at, number, answer);
     push(out, next, 10)
+}
+
+// The line of a refusal and where the message went wrong.
+pub fn put_placed(out: &mut [u8], at: usize, number: u64, answer: u32, place: usize) -> usize
+    ensures { λ n. ⌜ record { buffer = now (out .exit); at = n } ≡ typed (record { buffer = now (out .entry); at = at }) (placedLine number answer place) ⌝ }
+{
+    let a = put_answer(&mut *out, at, number, answer);
+    let b = put_spaced(&mut *out, a, place as u64);
+    push(out, b, 10)
 }
 
 // The line of a report.

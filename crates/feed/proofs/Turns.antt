@@ -10,6 +10,7 @@ use lib.ListN.{length, drop, replicate, length-drop}
 use borrow.Author.Tests.{eqb-true, eqb-false, ne-eqb, le-ltb, leb-true, leb-false}
 use Rattle.octets.specs.Writing.{writing}
 use Rattle.octets.proofs.Writing.{refused}
+use Rattle.message.specs.Message.{messagePlace}
 use Rattle.rules.specs.Calls.{Act, Close, Lock, Unlock, Receive, ReportOn, WriteCc, WriteCv, Call, Tick, Open, On, Said, reporting, writes}
 use Rattle.rules.proofs.Bools.{split, no-way}
 use Rattle.session.specs.declared.Session.{Session}
@@ -21,13 +22,13 @@ use Rattle.step.specs.Stepping.{tableOf, Obeyed}
 use Rattle.step.specs.Saying.{saidOf, Steps}
 use Rattle.capture.specs.declared.Record.{Record}
 use Rattle.capture.specs.declared.Next.the-variants.{Whole, Broken, Short, End}
-use Rattle.capture.specs.Records.{recordIn, recordFrom, bodyIn, actOf, callOf, callIn, nextIn, nextOf, isBroken, isWhole, sizeOf}
-use Rattle.capture.specs.Lines.{line, numbered, plainLine, reportLine, octetsLine}
+use Rattle.capture.specs.Records.{recordIn, recordFrom, bodyIn, settingsIn, actOf, callOf, callIn, nextIn, nextOf, isBroken, isWhole, sizeOf}
+use Rattle.capture.specs.Lines.{line, numbered, isReaders, plainLine, placedLine, reportLine, octetsLine}
 use Rattle.capture.specs.Typing.{Put, typed}
-use Rattle.capture.proofs.LineSaid.{isPlain, line-refused, line-plain, line-report, line-cc, line-cv, written}
+use Rattle.capture.proofs.LineSaid.{isPlain, hasPlace, line-refused, line-plain, line-placed, line-report, line-cc, line-cv, written}
 use Rattle.row.proofs.Branches.{held-is, failed-is}
 use Rattle.feed.specs.Feeding.{longest, moreOf, headOf, Flow, callNext, turnOf, goOn, feedOf}
-use Rattle.feed.specs.Calling.{bodyAt, Whole as Lengths, Calls, lineBy, behindOf, Answered, answered}
+use Rattle.feed.specs.Calling.{bodyAt, Whole as Lengths, Calls, isUnread, refusedLine, lineBy, behindOf, Answered, answered}
 use Rattle.feed.specs.declared.Fed.{Fed}
 
 both : (t u : Bool) → Holds (t && u) → Holds t × Holds u
@@ -77,6 +78,10 @@ module _ (f : Fed) (input : List ℕ) (room : ℕ) (h : Holds (moreOf f input ro
       rw (no, in-full .1)
 
 -- ---- the line of an outcome is that of what is said
+never : (t : Bool) → t && false ≡ false
+never true = refl
+never false = refl
+
 module _ (number : ℕ) (o : Outcome) (n : Lengths o) where
   plain-said : (c : Call) → isPlain c ≡ true → saidOf c o .number ≡ o .answer
   plain-said (Tick u) p = refl
@@ -101,14 +106,20 @@ module _ (number : ℕ) (o : Outcome) (n : Lengths o) where
   refused-said (On l (WriteCc b)) z = ap (λ (a : Said). a .number) (ap writes (refused (o .told .cc) b (o .answer) (eqb-false (o .answer) 0 z)))
   refused-said (On l (WriteCv b)) z = ap (λ (a : Said). a .number) (ap writes (refused (o .told .cv) b (o .answer) (eqb-false (o .answer) 0 z)))
 
-  -- a refusal is its number
-  refused-line : (c : Call) → eqb (o .answer) 0 ≡ false → plainLine number (o .answer) ≡ line number c (saidOf c o)
-  refused-line c z =
+  -- a refusal with no place is its number
+  refused-line : (c : Call) → eqb (o .answer) 0 ≡ false → hasPlace c (o .answer) ≡ false → plainLine number (o .answer) ≡ line number c (saidOf c o)
+  refused-line c z p =
       let k = refused-said c z in
-      sym (line-refused number c (saidOf c o) (λ e. eqb-false (o .answer) 0 z (sym k ∙ e)) ∙ ap (plainLine number) k)
+      sym (line-refused number c (saidOf c o) (λ e. eqb-false (o .answer) 0 z (sym k ∙ e)) (ap (hasPlace c) k ∙ p) ∙ ap (plainLine number) k)
 
-  plain-line : (c : Call) → isPlain c ≡ true → plainLine number (o .answer) ≡ line number c (saidOf c o)
-  plain-line c p = sym (line-plain number c (saidOf c o) p ∙ ap (plainLine number) (plain-said c p))
+  plain-line : (c : Call) → isPlain c ≡ true → hasPlace c (o .answer) ≡ false → plainLine number (o .answer) ≡ line number c (saidOf c o)
+  plain-line c p q =
+      let k = plain-said c p in
+      sym (line-plain number c (saidOf c o) p (ap (hasPlace c) k ∙ q) ∙ ap (plainLine number) k)
+
+  -- a message that its reader refuses has its place
+  placed-line : (l : ℕ) (m : List ℕ) (u : ℕ) → isReaders (o .answer) ≡ true → placedLine number (o .answer) (messagePlace m) ≡ line number (On l (Receive m u)) (saidOf (On l (Receive m u)) o)
+  placed-line l m u p = sym (line-placed number l m u (saidOf (On l (Receive m u)) o) p)
 
   -- the octets of an accepted write are the whole buffer
   cc-said : (l : ℕ) → eqb (o .answer) 0 ≡ true → saidOf (On l (WriteCc (replicate 28 0))) o ≡ writes (record { answer = 0; buffer = o .told .cc })
@@ -136,24 +147,30 @@ module _ (number : ℕ) (o : Outcome) (n : Lengths o) where
     abbrev c : Call
     c = callOf r body
 
-    -- kinds below 6 tell nothing
-    plain-kind : leb 6 (r .kind) ≡ false → isPlain c ≡ true
+    -- what holds of the calls of kinds 0 to 5 holds of a record's below 6
+    low-kind : (P : Call → Type 0) → leb 6 (r .kind) ≡ false → P (Tick (r .time)) → P (Open (settingsIn (r .label) body) (r .time))
+        → P (On (r .label) (Close (r .time))) → P (On (r .label) (Lock (r .time))) → P (On (r .label) (Unlock (r .time)))
+        → (eqb (r .kind) 5 ≡ true → P (On (r .label) (Receive body (r .time)))) → P c
     unfolding callOf
-    plain-kind k =
+    low-kind P k tick opened close lock unlock receive =
         let low : r .kind < 6 = leb-false 6 (r .kind) k in
         split (eqb (r .kind) 0)
-        (λ a. rw a)
+        (λ a. rw a tick)
         (λ a. split (eqb (r .kind) 1)
-        (λ b. rw (a, b))
+        (λ b. rw (a, b) opened)
         (λ b. split (eqb (r .kind) 2)
-        (λ d. rw (a, b, d))
+        (λ d. rw (a, b, d) close)
         (λ d. split (eqb (r .kind) 3)
-        (λ e. rw (a, b, d, e))
+        (λ e. rw (a, b, d, e) lock)
         (λ e. split (eqb (r .kind) 4)
-        (λ f. rw (a, b, d, e, f))
+        (λ f. rw (a, b, d, e, f) unlock)
         (λ f. split (eqb (r .kind) 5)
-        (λ g. rw (a, b, d, e, f, g))
+        (λ g. rw (a, b, d, e, f, g) (receive g))
         (λ g. absurd (omega (arith, low, eqb-false (r .kind) 0 a, eqb-false (r .kind) 1 b, eqb-false (r .kind) 2 d, eqb-false (r .kind) 3 e, eqb-false (r .kind) 4 f, eqb-false (r .kind) 5 g))))))))
+
+    -- they tell nothing
+    plain-kind : leb 6 (r .kind) ≡ false → isPlain c ≡ true
+    plain-kind k = low-kind (λ (d : Call). isPlain d ≡ true) k refl refl refl refl refl (λ _. refl)
 
     above : (i : ℕ) → i < 6 → leb 6 (r .kind) ≡ true → eqb (r .kind) i ≡ false
     above i l k = ne-eqb (r .kind) i (λ e. omega (arith, l, leb-true 6 (r .kind) k, e))
@@ -162,7 +179,37 @@ module _ (number : ℕ) (o : Outcome) (n : Lengths o) where
     unfolding callOf
     told-kind k = rw (above 0 (omega arith) k, above 1 (omega arith) k, above 2 (omega arith) k, above 3 (omega arith) k, above 4 (omega arith) k, above 5 (omega arith) k)
 
-    pub line-is : lineBy number (r .kind) o ≡ line number c (saidOf c o)
+    received : eqb (r .kind) 5 ≡ true → c ≡ On (r .label) (Receive body (r .time))
+    unfolding callOf
+    received k = rw (eqb-true (r .kind) 5 k)
+
+    -- no other line has a place
+    placeless : (n : ℕ) → isUnread (r .kind) n ≡ false → hasPlace c n ≡ false
+    placeless n e =
+        split (leb 6 (r .kind))
+        (λ h. rw (told-kind h) (split (eqb (r .kind) 6) (λ a. rw a) (λ a. split (eqb (r .kind) 7) (λ b. rw (a, b)) (λ b. rw (a, b)))))
+        (λ h. low-kind (λ (d : Call). hasPlace d n ≡ false) h refl refl refl refl refl (λ k. sym (ap (λ (t : Bool). t && isReaders n) k) ∙ e))
+
+    placed-is : isUnread (r .kind) (o .answer) ≡ true → placedLine number (o .answer) (messagePlace body) ≡ line number c (saidOf c o)
+    placed-is e =
+        split (eqb (r .kind) 5)
+        (λ k. rw (received k) (placed-line (r .label) body (r .time) (sym (ap (λ (t : Bool). t && isReaders (o .answer)) k) ∙ e)))
+        (λ k. no-way e (ap (λ (t : Bool). t && isReaders (o .answer)) k))
+
+    refused-is : eqb (o .answer) 0 ≡ false → refusedLine number (r .kind) (o .answer) body ≡ line number c (saidOf c o)
+    unfolding refusedLine
+    refused-is z =
+        split (isUnread (r .kind) (o .answer))
+        (λ e. rw e (placed-is e))
+        (λ e. rw e (refused-line c z (placeless (o .answer) e)))
+
+    -- no reader refuses with 0
+    accepted-is : eqb (o .answer) 0 ≡ true → leb 6 (r .kind) ≡ false → plainLine number 0 ≡ line number c (saidOf c o)
+    accepted-is z k =
+        let none : o .answer ≡ 0 = eqb-true (o .answer) 0 z in
+        ap (plainLine number) (sym none) ∙ plain-line c (plain-kind k) (placeless (o .answer) (rw none (never (eqb (r .kind) 5))))
+
+    pub line-is : lineBy number (r .kind) o body ≡ line number c (saidOf c o)
     unfolding lineBy
     line-is =
         split (eqb (o .answer) 0)
@@ -173,8 +220,8 @@ module _ (number : ℕ) (o : Outcome) (n : Lengths o) where
         (λ a. split (eqb (r .kind) 7)
         (λ b. rw (a, b) (cc-line (r .label) z))
         (λ b. rw (a, b) (cv-line (r .label) z)))))
-        (λ k. rw (z, k) (plain-line c (plain-kind k))))
-        (λ z. rw z (refused-line c z))
+        (λ k. rw (z, k) (accepted-is z k)))
+        (λ z. rw z (refused-is z))
 
 -- ---- one turn of the definition
 abbrev pub flow : List Session → Fed → List ℕ → Flow
@@ -190,14 +237,14 @@ put-by out f t c = typed (record { buffer = out; at = f .written }) (line (numbe
 -- what comes of it, from the step
 turn-by : (input : List ℕ) (row : List Session) (f : Fed) (out : List ℕ) (r : Record) → r ≡ recordIn (drop (f .used) input) → (o : Outcome) (zs : List Session)
     → Steps row (f .head) (callOf r (bodyAt input f r)) (record { outcome = o; row = zs }) → Lengths o
-    → (g : Fed) (ps : List ℕ) → record { fed = g; out = ps } ≡ answered out f (length input) r o → Holds (moreOf f input (length out)) → flow zs g ps ≡ turnOf input (flow row f out)
+    → (g : Fed) (ps : List ℕ) → record { fed = g; out = ps } ≡ answered out f input r o → Holds (moreOf f input (length out)) → flow zs g ps ≡ turnOf input (flow row f out)
 unfolding turnOf answered callIn
 turn-by input row f out r e o zs w n g ps a h =
     let s = drop (f .used) input in
     let t = tableOf row (f .head) in
     let c = callOf r (bodyAt input f r) in
     let same : c ≡ callNext input f = ap (λ (q : Record). callOf q (bodyIn s (q .size))) e in
-    let told : lineBy (numbered (f .number)) (r .kind) o ≡ line (numbered (f .number)) c (answer t c) = line-is (numbered (f .number)) o n r (bodyAt input f r) ∙ ap (line (numbered (f .number)) c) (w .0) in
+    let told : lineBy (numbered (f .number)) (r .kind) o (bodyAt input f r) ≡ line (numbered (f .number)) c (answer t c) = line-is (numbered (f .number)) o n r (bodyAt input f r) ∙ ap (line (numbered (f .number)) c) (w .0) in
     let used : behindOf (length input) (f .used) (r .size) ≡ f .used + sizeOf (nextIn s) = ap (λ (q : Record). behindOf (length input) (f .used) (q .size)) e ∙ behind-is f input (length out) h in
     ap (λ (y : Answered). flow zs (y .fed) (y .out)) a
     ∙ ap (λ (l : List ℕ). flow zs (fed-by f (o .head) (behindOf (length input) (f .used) (r .size)) (typed (record { buffer = out; at = f .written }) l .at)) (typed (record { buffer = out; at = f .written }) l .buffer)) told
@@ -207,14 +254,14 @@ turn-by input row f out r e o zs w n g ps a h =
 
 -- a record, its call and its line are one turn
 pub is-turn : (input : List ℕ) (row : List Session) (f : Fed) (out : List ℕ) (sound : Bool) (r : Record) → r ≡ recordFrom (drop (f .used) input) → (o : Outcome) (zs : List Session) → Calls row f r input sound o zs
-    → (g : Fed) (ps : List ℕ) → record { fed = g; out = ps } ≡ answered out f (length input) r o
+    → (g : Fed) (ps : List ℕ) → record { fed = g; out = ps } ≡ answered out f input r o
     → sound ≡ inOrder (tableOf row (f .head)) → Holds (moreOf f input (length out)) → length input < 2 ^ 64 → length row < 2 ^ 64 → flow zs g ps ≡ turnOf input (flow row f out)
 is-turn input row f out sound r e o zs called g ps a mark h short long =
     let w = called mark (more-says f input (length out) h .0) short long in
     turn-by input row f out r (e ∙ record-read f input (length out) h) o zs (w .0) (w .1) g ps a h
 
 -- octets are taken, whatever is known of the row
-pub turn-takes : (input : List ℕ) (f : Fed) (out : List ℕ) (r : Record) → r ≡ recordFrom (drop (f .used) input) → (o : Outcome) (g : Fed) (ps : List ℕ) → record { fed = g; out = ps } ≡ answered out f (length input) r o
+pub turn-takes : (input : List ℕ) (f : Fed) (out : List ℕ) (r : Record) → r ≡ recordFrom (drop (f .used) input) → (o : Outcome) (g : Fed) (ps : List ℕ) → record { fed = g; out = ps } ≡ answered out f input r o
     → Holds (moreOf f input (length out)) → f .used < g .used
 unfolding answered
 turn-takes input f out r e o g ps a h =

@@ -6,6 +6,7 @@ use mathlib.Core.Bool.{Bool, cond, false, _&&_}
 use mathlib.Core.List.{List}
 use lib.Dec.{eqb, ltb, leb}
 use lib.ListN.{length, drop}
+use Rattle.message.specs.Message.{messagePlace}
 use Rattle.session.specs.declared.Session.{Session}
 use Rattle.table.specs.Table.{inOrder}
 use Rattle.scan.specs.declared.Summary.{Summary}
@@ -20,7 +21,7 @@ use Rattle.step.specs.Arriving.{receiveAt}
 use Rattle.step.specs.Saying.{Steps}
 use Rattle.capture.specs.declared.Record.{Record}
 use Rattle.capture.specs.Records.{bodyIn, settingsIn, callOf}
-use Rattle.capture.specs.Lines.{numbered, plainLine, reportLine, octetsLine}
+use Rattle.capture.specs.Lines.{isReaders, numbered, plainLine, placedLine, reportLine, octetsLine}
 use Rattle.capture.specs.Typing.{typed}
 use Rattle.feed.specs.declared.Fed.{Fed}
 
@@ -74,18 +75,26 @@ Calls row f r input sound o zs =
     sound ≡ inOrder (tableOf row (f .head)) → f .used + 16 ≤ length input → length input < 2 ^ 64 → length row < 2 ^ 64
     → Steps row (f .head) (callOf r (bodyAt input f r)) (record { outcome = o; row = zs }) × Whole o
 
--- an accepted report or write tells something
-abbrev pub tells : ℕ → ℕ → Bool
-tells kind answer = eqb answer 0 && leb 6 kind
-
 -- kind 6 tells its report, 7 and 8 their octets
 abbrev pub toldLine : ℕ → ℕ → Told → List ℕ
 toldLine number kind told =
     cond (eqb kind 6) (reportLine number (told .report)) (cond (eqb kind 7) (octetsLine number (told .cc)) (octetsLine number (told .cv)))
 
+-- the line of an accepted call: a report or a write tells something
+abbrev pub acceptedLine : ℕ → ℕ → Told → List ℕ
+acceptedLine number kind told = cond (leb 6 kind) (toldLine number kind told) (plainLine number 0)
+
+-- a message that its reader refuses
+abbrev pub isUnread : ℕ → ℕ → Bool
+isUnread kind answer = eqb kind 5 && isReaders answer
+
+-- the line of a refusal: such a message has its place
+unfoldable pub refusedLine : ℕ → ℕ → ℕ → List ℕ → List ℕ
+refusedLine number kind answer body = cond (isUnread kind answer) (placedLine number answer (messagePlace body)) (plainLine number answer)
+
 -- the line of an outcome, by the record's kind
-unfoldable pub lineBy : ℕ → ℕ → Outcome → List ℕ
-lineBy number kind o = cond (tells kind (o .answer)) (toldLine number kind (o .told)) (plainLine number (o .answer))
+unfoldable pub lineBy : ℕ → ℕ → Outcome → List ℕ → List ℕ
+lineBy number kind o body = cond (eqb (o .answer) 0) (acceptedLine number kind (o .told)) (refusedLine number kind (o .answer) body)
 
 -- the place behind a record; its own where it does not stand whole in so many octets
 abbrev pub behindOf : ℕ → ℕ → ℕ → ℕ
@@ -96,7 +105,7 @@ pub record Answered : Type 0 where
   pub fed : Fed
   pub out : List ℕ
 
-unfoldable pub answered : List ℕ → Fed → ℕ → Record → Outcome → Answered
-answered out f octets r o =
-    let p = typed (record { buffer = out; at = f .written }) (lineBy (numbered (f .number)) (r .kind) o) in
-    record { fed = record { head = o .head; number = numbered (f .number); used = behindOf octets (f .used) (r .size); written = p .at }; out = p .buffer }
+unfoldable pub answered : List ℕ → Fed → List ℕ → Record → Outcome → Answered
+answered out f input r o =
+    let p = typed (record { buffer = out; at = f .written }) (lineBy (numbered (f .number)) (r .kind) o (bodyAt input f r)) in
+    record { fed = record { head = o .head; number = numbered (f .number); used = behindOf (length input) (f .used) (r .size); written = p .at }; out = p .buffer }

@@ -1,12 +1,15 @@
 // One record of the feed: whether it is there, and its line.
 use crate::Fed;
 use capture::Record;
+use capture::body_at;
 use capture::is_whole;
 use capture::next_record;
+use capture::put_placed;
 use capture::put_plain;
 use capture::put_reported;
 use capture::put_written;
 use capture::record_at;
+use message::place_of;
 use octets::both;
 use step::Outcome;
 use step::Told;
@@ -14,11 +17,11 @@ ghost use mathlib.Core.Path.{_≡_};
 ghost use Prim.Native.Nat.{_-_};
 ghost use lib.Dec.{leb};
 ghost use lib.ListN.{length, drop};
-ghost use Rattle.capture.specs.Records.{recordFrom};
+ghost use Rattle.capture.specs.Records.{recordFrom, bodyIn};
 ghost use Rattle.capture.specs.Lines.{numbered};
 ghost use Rattle.capture.specs.Typing.{typed};
 ghost use Rattle.feed.specs.Feeding.{longest, moreOf};
-ghost use Rattle.feed.specs.Calling.{tells, toldLine, lineBy, behindOf, answered};
+ghost use Rattle.feed.specs.Calling.{toldLine, isUnread, refusedLine, lineBy, behindOf, answered};
 
 fn has_room(room: usize, written: usize) -> bool
     ensures { λ r. ⌜ r ≡ leb longest (room - written) ⌝ }
@@ -69,13 +72,6 @@ fn number_after(n: u64) -> u64
     n
 }
 
-// An accepted report or write tells something.
-fn is_told(kind: u16, answer: u32) -> bool
-    ensures { λ t. ⌜ t ≡ tells kind answer ⌝ }
-{
-    both(answer == 0, 6 <= kind)
-}
-
 // Kind 6 tells its report, 7 and 8 their octets.
 fn put_told(out: &mut [u8], at: usize, number: u64, kind: u16, told: Told) -> usize
     ensures { λ n. ⌜ record { buffer = now (out .exit); at = n } ≡ typed (record { buffer = now (out .entry); at = at }) (toldLine number kind told) ⌝ }
@@ -92,25 +88,63 @@ fn put_told(out: &mut [u8], at: usize, number: u64, kind: u16, told: Told) -> us
     put_written(out, at, number, &octets)
 }
 
-// The line of an outcome, by the record's kind.
-fn put_by(out: &mut [u8], at: usize, number: u64, kind: u16, o: Outcome) -> usize
-    ensures { λ n. ⌜ record { buffer = now (out .exit); at = n } ≡ typed (record { buffer = now (out .entry); at = at }) (lineBy number kind o) ⌝ }
+// A message that its reader refuses.
+fn is_unread(kind: u16, answer: u32) -> bool
+    ensures { λ t. ⌜ t ≡ isUnread kind answer ⌝ }
 {
-    if is_told(kind, o.answer) {
-        let told = o.told;
-        return put_told(out, at, number, kind, told);
+    both(kind == 5, both(3 <= answer, answer <= 8))
+}
+
+// The line of a refusal. A refused message is read again for its place: the call's answer carries
+// none.
+fn put_refused(
+    out: &mut [u8],
+    at: usize,
+    number: u64,
+    r: Record,
+    answer: u32,
+    input: &[u8],
+    used: usize,
+) -> usize
+    ensures { λ n. ⌜ record { buffer = now (out .exit); at = n } ≡ typed (record { buffer = now (out .entry); at = at }) (refusedLine number (r .kind) answer (bodyIn (drop used (now (input .entry))) (r .size))) ⌝ }
+{
+    if is_unread(r.kind, answer) {
+        let place = place_of(body_at(input, used, r.size as usize));
+        return put_placed(out, at, number, answer, place);
     }
-    put_plain(out, at, number, o.answer)
+    put_plain(out, at, number, answer)
+}
+
+// The line of an outcome, by the record's kind.
+fn put_by(
+    out: &mut [u8],
+    at: usize,
+    number: u64,
+    r: Record,
+    o: Outcome,
+    input: &[u8],
+    used: usize,
+) -> usize
+    ensures { λ n. ⌜ record { buffer = now (out .exit); at = n } ≡ typed (record { buffer = now (out .entry); at = at }) (lineBy number (r .kind) o (bodyIn (drop used (now (input .entry))) (r .size))) ⌝ }
+{
+    if o.answer != 0 {
+        return put_refused(out, at, number, r, o.answer, input, used);
+    }
+    if r.kind < 6 {
+        return put_plain(out, at, number, 0);
+    }
+    let told = o.told;
+    put_told(out, at, number, r.kind, told)
 }
 
 // The line for a record's outcome, and how far the table is fed then.
 pub fn answer_line(out: &mut [u8], f: Fed, input: &[u8], r: Record, o: Outcome) -> Fed
-    ensures { λ g. ⌜ record { fed = g; out = now (out .exit) } ≡ answered (now (out .entry)) f (length (now (input .entry))) r o ⌝ }
+    ensures { λ g. ⌜ record { fed = g; out = now (out .exit) } ≡ answered (now (out .entry)) f (now (input .entry)) r o ⌝ }
 {
     let number = number_after(f.number);
     let used = behind(input.len(), f.used, r.size);
     let head = o.head;
-    let written = put_by(out, f.written, number, r.kind, o);
+    let written = put_by(out, f.written, number, r, o, input, f.used);
     Fed {
         head: head,
         number: number,

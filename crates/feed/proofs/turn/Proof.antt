@@ -58,7 +58,7 @@ abbrev Turns : List Session → List ℕ → Bool → Fed → List ℕ → Fed �
 Turns ys out sound f m g zs ps = moreOf f m (length out) ≡ true → (f .used < g .used) × (sound ≡ inOrder (tableOf ys (f .head)) → flow zs g ps ≡ turnOf m (flow ys f out))
 
 pub said : (ys : List Session) (out : List ℕ) (sound : Bool) (f : Fed) (m : List ℕ) → length ys < 2 ^ 64 → length out < 2 ^ 64 → length m < 2 ^ 64 → (r : Record) → r ≡ recordFrom (drop (f .used) m)
-    → (o : Outcome) (zs : List Session) → Calls ys f r m sound o zs → length zs ≡ length ys → (g : Fed) (ps : List ℕ) → told g ps ≡ answered out f (length m) r o → Turns ys out sound f m g zs ps
+    → (o : Outcome) (zs : List Session) → Calls ys f r m sound o zs → length zs ≡ length ys → (g : Fed) (ps : List ℕ) → told g ps ≡ answered out f m r o → Turns ys out sound f m g zs ps
 said ys out sound f m long _ short r er o zs called _ g ps e more =
     let h : Holds (moreOf f m (length out)) = subst (λ (t : Bool). Holds t) (sym more) tt in
     (turn-takes m f out r er o g ps e h, λ mark. is-turn m ys f out sound r er o zs called g ps e mark h short long)
@@ -67,7 +67,7 @@ abbrev laws : way.Turn sessionP boolP fedP recordP outcomeP
 laws = record {
   next = λ m f. recordFrom (drop (f .used) m);
   Did = λ ys sound f r m o zs. Calls ys f r m sound o zs;
-  Wrote = λ out f m r o g ps. told g ps ≡ answered out f (length m) r o;
+  Wrote = λ out f m r o g ps. told g ps ≡ answered out f m r o;
   Said = Turns;
   says = said;
 }
