@@ -1,8 +1,8 @@
 /*
  * What crosses between a host and the library, held to this header from outside: the version, every
- * field of a record and of a message at its place, each mark and each number that a writer must
- * refuse, and rows of another length lent to each call. hosts/run compares what is printed with
- * hosts/timeline-boundary.
+ * field of a record and of a message at its place, where each reader says that a message went wrong,
+ * each mark and each number that a writer must refuse, and rows of another length lent to each call.
+ * hosts/run compares what is printed with hosts/timeline-boundary.
  */
 #include <inttypes.h>
 #include <stdio.h>
@@ -19,7 +19,7 @@ static void need(int holds, const char *what) {
 }
 
 static void check_version(void) {
-    need(KORVEZUL_VERSION == 0x010000, "version of the header");
+    need(KORVEZUL_VERSION == 0x020000, "version of the header");
     need(korvezul_version() == KORVEZUL_VERSION, "version of the library");
     printf("version %d.%d.%d: header and library agree\n", KORVEZUL_VERSION_MAJOR, KORVEZUL_VERSION_MINOR,
            KORVEZUL_VERSION_PATCH);
@@ -103,13 +103,14 @@ static void check_octets(void) {
     struct korvezul_fault_read w = korvezul_read_fault(fault_octets, sizeof fault_octets);
     uint8_t m[KORVEZUL_CV_OCTETS];
     need(korvezul_write_cv_message(m, sizeof m, p, id) == 0 && memcmp(m, cv_octets, 44) == 0, "CV written");
-    need(v.answer == 0 && v.part == 28 &&
+    need(v.answer == 0 && v.place == 44 && v.part == 28 &&
              memcmp(&v.packet, &p, offsetof(struct korvezul_packet, demand) + 1) == 0,
          "packet read");
     need(v.mep.kind == 1 && v.mep.global == id.global && v.mep.node == id.node && v.mep.local == id.local,
          "MEP-ID read");
     need(korvezul_write_fault_message(m, 19, f) == 0 && memcmp(m, fault_octets, 19) == 0, "LKR written");
-    need(w.answer == 0 && memcmp(&w.fault, &f, offsetof(struct korvezul_fault, has_global_id) + 1) == 0,
+    need(w.answer == 0 && w.place == 19 &&
+             memcmp(&w.fault, &f, offsetof(struct korvezul_fault, has_global_id) + 1) == 0,
          "LKR read");
     need(korvezul_write_fault_message(m, 15, r) == 0 && memcmp(m, removed_octets, 15) == 0, "AIS written");
     p.state = 3;
@@ -161,6 +162,53 @@ static void written(void) {
     f.link_down = 0;
     f.removed = 1;
     print_octets("AIS with R", korvezul_write_fault_message(m, sizeof m, f), m, KORVEZUL_FAULT_OCTETS);
+}
+
+/* Where each reader says that a message went wrong, with one octet after the other set to a value, and
+ * how many octets the whole one uses, padded. What is beside a refusal must be noughts. */
+static void *padded(const uint8_t *from, size_t n, uint8_t *to, size_t at, uint8_t value) {
+    memcpy(to, from, n);
+    memset(to + n, 0xee, 3);
+    if (at < n)
+        to[at] = value;
+    return to;
+}
+
+static void place(uint32_t answer, uint64_t at, const void *fields, size_t n) {
+    const uint8_t *o = fields;
+    for (size_t i = 0; answer != KORVEZUL_ACCEPTED && i < n; i++)
+        need(o[i] == 0, "a field beside a refusal");
+    printf(" %" PRIu32 "/%" PRIu64, answer, at);
+}
+
+static void places(uint8_t value) {
+    struct korvezul_packet p = {.my = 1, .your = 2, .state = 2, .multiplier = 3};
+    struct korvezul_mep_id id = {.kind = 1};
+    struct korvezul_fault f = {.kind = 1, .refresh = 1, .has_if_id = 1, .has_global_id = 1};
+    uint8_t m[KORVEZUL_CV_OCTETS], o[KORVEZUL_CV_OCTETS + 3];
+    need(korvezul_write_cc_message(m, sizeof m, p) == 0, "CC");
+    printf("CC:");
+    for (size_t i = 0; i <= KORVEZUL_CC_OCTETS; i++) {
+        struct korvezul_cc_read r =
+            korvezul_read_cc(padded(m, KORVEZUL_CC_OCTETS, o, i, value), KORVEZUL_CC_OCTETS + 3);
+        place(r.answer, r.place, &r.packet, offsetof(struct korvezul_packet, demand) + 1);
+    }
+    need(korvezul_write_cv_message(m, sizeof m, p, id) == 0, "CV");
+    printf("\nCV:");
+    for (size_t i = 0; i <= KORVEZUL_CV_OCTETS; i++) {
+        struct korvezul_cv_read r =
+            korvezul_read_cv(padded(m, KORVEZUL_CV_OCTETS, o, i, value), KORVEZUL_CV_OCTETS + 3);
+        need(r.answer == 0 || (r.part == 0 && r.mep.kind == 0), "part and MEP-ID beside a refusal");
+        place(r.answer, r.place, &r.packet, offsetof(struct korvezul_packet, demand) + 1);
+    }
+    need(korvezul_write_fault_message(m, sizeof m, f) == 0, "AIS");
+    printf("\nAIS:");
+    for (size_t i = 0; i <= KORVEZUL_FAULT_OCTETS; i++) {
+        struct korvezul_fault_read r =
+            korvezul_read_fault(padded(m, KORVEZUL_FAULT_OCTETS, o, i, value), KORVEZUL_FAULT_OCTETS + 3);
+        place(r.answer, r.place, &r.fault, offsetof(struct korvezul_fault, has_global_id) + 1);
+    }
+    printf("\n");
 }
 
 /* A writer's answer, and whether it left the buffer as it was: a refusal must. */
@@ -312,6 +360,10 @@ int main(void) {
     check_octets();
     headline("each field in its own octets");
     written();
+    headline("answer and place, with one octet after the other set to 0, and with none");
+    places(0);
+    headline("and set to 255");
+    places(255);
     headline("marks");
     marks();
     headline("numbers behind what is absent");

@@ -130,9 +130,26 @@ static void ais(struct end *to) {
 
 static void headline(const char *text) { printf("-- %s\n", text); }
 
+/* What the readers and the writers refuse: a message of each kind, and fields. */
+static void message_refusals(uint8_t *cc, uint8_t *fault, struct korvezul_packet p) {
+    static const struct korvezul_packet none;
+    struct korvezul_cc_read r = korvezul_read_cc(cc, 27);
+    struct korvezul_cv_read v = korvezul_read_cv(cc, KORVEZUL_CC_OCTETS);
+    struct korvezul_fault_read w;
+    printf("CC of 27 octets: %" PRIu32 " at %" PRIu64 ", and %s\n", r.answer, r.place,
+           memcmp(&r.packet, &none, offsetof(struct korvezul_packet, demand) + 1) == 0 ? "noughts"
+                                                                                       : "something");
+    printf("CC read as a CV: %" PRIu32 " at %" PRIu64 "\n", v.answer, v.place);
+    fault[10] = 3;
+    w = korvezul_read_fault(fault, 15);
+    printf("Global_ID of length 3: %" PRIu32 " at %" PRIu64 "\n", w.answer, w.place);
+    printf("CC into 27 octets: %" PRIu32 "\n", korvezul_write_cc_message(cc, 27, p));
+    p.poll = 2;
+    printf("P of 2 written: %" PRIu32 "\n", korvezul_write_cc_message(cc, KORVEZUL_CC_OCTETS, p));
+}
+
 /* The readers and writers of messages alone. */
 static void messages(void) {
-    static const struct korvezul_packet none;
     uint8_t cc[KORVEZUL_CC_OCTETS], cv[KORVEZUL_CV_OCTETS + 3] = {0}, fault[KORVEZUL_FAULT_OCTETS];
     struct korvezul_packet p = {.my = 17,
                                 .your = 34,
@@ -149,26 +166,22 @@ static void messages(void) {
     struct korvezul_fault_read w;
     printf("write CC: %" PRIu32, korvezul_write_cc_message(cc, sizeof cc, p));
     r = korvezul_read_cc(cc, sizeof cc);
-    printf(", read: %" PRIu32 ", my %" PRIu32 ", your %" PRIu32 ", state %d, diagnostic %d, F %d\n", r.answer,
-           r.packet.my, r.packet.your, r.packet.state, r.packet.diagnostic, r.packet.final);
+    printf(", read: %" PRIu32 ", %" PRIu64 " octets, my %" PRIu32 ", your %" PRIu32
+           ", state %d, diagnostic %d, F %d\n",
+           r.answer, r.place, r.packet.my, r.packet.your, r.packet.state, r.packet.diagnostic,
+           r.packet.final);
     printf("write CV: %" PRIu32, korvezul_write_cv_message(cv, sizeof cv, p, lsp(20)));
     v = korvezul_read_cv(cv, sizeof cv);
-    printf(", read: %" PRIu32 ", node %" PRIu32 ", part from octet %" PRIu32 "\n", v.answer, v.mep.node,
-           v.part);
+    printf(", read: %" PRIu32 ", %" PRIu64 " octets of 47, node %" PRIu32 ", part from octet %" PRIu32 "\n",
+           v.answer, v.place, v.mep.node, v.part);
     octets(cv + v.part, 16);
     printf("write LKR: %" PRIu32, korvezul_write_fault_message(fault, sizeof fault, f));
     w = korvezul_read_fault(fault, 15);
-    printf(", read: %" PRIu32 ", type %d, R %d, refresh %d, IF_ID %d, Global_ID %d: %" PRIu32 "\n", w.answer,
-           w.fault.kind, w.fault.removed, w.fault.refresh, w.fault.has_if_id, w.fault.has_global_id,
-           w.fault.global);
-    r = korvezul_read_cc(cc, 27);
-    printf("CC of 27 octets: %" PRIu32 ", and %s\n", r.answer,
-           memcmp(&r.packet, &none, offsetof(struct korvezul_packet, demand) + 1) == 0 ? "noughts"
-                                                                                       : "something");
-    printf("CC read as a CV: %" PRIu32 "\n", korvezul_read_cv(cc, sizeof cc).answer);
-    printf("CC into 27 octets: %" PRIu32 "\n", korvezul_write_cc_message(cc, 27, p));
-    p.poll = 2;
-    printf("P of 2 written: %" PRIu32 "\n", korvezul_write_cc_message(cc, sizeof cc, p));
+    printf(", read: %" PRIu32 ", %" PRIu64
+           " octets, type %d, R %d, refresh %d, IF_ID %d, Global_ID %d: %" PRIu32 "\n",
+           w.answer, w.place, w.fault.kind, w.fault.removed, w.fault.refresh, w.fault.has_if_id,
+           w.fault.has_global_id, w.fault.global);
+    message_refusals(cc, fault, p);
 }
 
 static void both_report(void) {

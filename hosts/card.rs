@@ -169,7 +169,7 @@ fn check_packet() {
     assert!((8..28).all(|i| cv[i] as usize == i - 7) && cv[28..32] == [0, 1, 0, 12]);
     assert!((32..44).all(|i| cv[i] as usize == i + 1));
     let v = read_cv(&cv);
-    assert_eq!((v.answer, v.part, v.packet, v.mep), (0, 28, p, id));
+    assert_eq!((v.answer, v.place, v.part, v.packet, v.mep), (0, 44, 28, p, id));
     let mut cc = [0; 28];
     let other = Packet { state: 3, poll: 0, independent: 0, fin: 1, demand: 1, ..p };
     assert_eq!((write_cc_message(&mut cc, other), cc[5]), (0, 0xd2));
@@ -191,7 +191,7 @@ fn check_fault() {
     assert_eq!(o[..11], [0x10, 0, 0, 0x58, 0x10, 2, 2, 20, 10, 1, 8]);
     assert!((11..19).all(|i| o[i] as usize == i + 0x26));
     let w = read_fault(&o[..19]);
-    assert_eq!((w.answer, w.fault), (0, lkr));
+    assert_eq!((w.answer, w.place, w.fault), (0, 19, lkr));
     let ais = Fault { global: 0x393a3b3c, kind: 1, removed: 1, refresh: 5, has_global_id: 1, ..Fault::default() };
     assert_eq!(write_fault_message(&mut o, ais), 0);
     assert_eq!(o[..15], [0x10, 0, 0, 0x58, 0x10, 1, 1, 5, 6, 2, 4, 0x39, 0x3a, 0x3b, 0x3c]);
@@ -226,14 +226,19 @@ fn check_rows() {
     }
 }
 
-fn message_refusals(mut cc: [u8; 28], mut p: Packet) {
+fn message_refusals(mut cc: [u8; 28], mut fault: [u8; 25], mut p: Packet) {
     let r = read_cc(&cc[..27]);
     println!(
-        "CC of 27 octets: {}, and {}",
+        "CC of 27 octets: {} at {}, and {}",
         r.answer,
+        r.place,
         if r.packet == Packet::default() { "noughts" } else { "something" }
     );
-    println!("CC read as a CV: {}", read_cv(&cc).answer);
+    let v = read_cv(&cc);
+    println!("CC read as a CV: {} at {}", v.answer, v.place);
+    fault[10] = 3;
+    let w = read_fault(&fault[..15]);
+    println!("Global_ID of length 3: {} at {}", w.answer, w.place);
     println!("CC into 27 octets: {}", write_cc_message(&mut cc[..27], p));
     p.poll = 2;
     println!("P of 2 written: {}", write_cc_message(&mut cc, p));
@@ -257,27 +262,22 @@ fn messages() {
     print!("write CC: {}", write_cc_message(&mut cc, p));
     let r = read_cc(&cc);
     println!(
-        ", read: {}, my {}, your {}, state {}, diagnostic {}, F {}",
-        r.answer, r.packet.my, r.packet.your, r.packet.state, r.packet.diagnostic, r.packet.fin
+        ", read: {}, {} octets, my {}, your {}, state {}, diagnostic {}, F {}",
+        r.answer, r.place, r.packet.my, r.packet.your, r.packet.state, r.packet.diagnostic, r.packet.fin
     );
     print!("write CV: {}", write_cv_message(&mut cv, p, lsp(20)));
     let v = read_cv(&cv);
     assert!(v.packet == p);
-    println!(", read: {}, node {}, part from octet {}", v.answer, v.mep.node, v.part);
+    println!(", read: {}, {} octets of 47, node {}, part from octet {}", v.answer, v.place, v.mep.node, v.part);
     octets(&cv[v.part as usize..v.part as usize + 16]);
     print!("write LKR: {}", write_fault_message(&mut fault, f));
     let w = read_fault(&fault[..15]);
+    let g = w.fault;
     println!(
-        ", read: {}, type {}, R {}, refresh {}, IF_ID {}, Global_ID {}: {}",
-        w.answer,
-        w.fault.kind,
-        w.fault.removed,
-        w.fault.refresh,
-        w.fault.has_if_id,
-        w.fault.has_global_id,
-        w.fault.global
+        ", read: {}, {} octets, type {}, R {}, refresh {}, IF_ID {}, Global_ID {}: {}",
+        w.answer, w.place, g.kind, g.removed, g.refresh, g.has_if_id, g.has_global_id, g.global
     );
-    message_refusals(cc, p);
+    message_refusals(cc, fault, p);
 }
 
 fn both_report(now: u64, a: &mut End, b: &mut End) {

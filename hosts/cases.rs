@@ -485,18 +485,19 @@ fn fault_by(w: &mut Words) -> Result<Fault, String> {
     Ok(f)
 }
 
-/// What a reader shows: 0 and the fields, or a refusal and noughts.
-fn read(answer: u32, noughts: bool, fields: String) -> Shown {
+/// What a reader shows: its answer and its place, and behind 0 the fields; beside a refusal these are
+/// noughts.
+fn read(answer: u32, place: u64, noughts: bool, fields: String) -> Shown {
     match (answer, noughts) {
-        (0, _) => Ok(Some(answered(0, &fields))),
-        (_, true) => Ok(Some(answer.to_string())),
+        (0, _) => Ok(Some(format!("0 {place}, {fields}"))),
+        (_, true) => Ok(Some(format!("{answer} {place}"))),
         (_, false) => Err(format!("refused with {answer}, and yet {fields}")),
     }
 }
 
 fn read_cc_line(m: &[u8]) -> Shown {
     let r = read_cc(m);
-    read(r.answer, r.packet == Packet::default(), packet_fields(r.packet))
+    read(r.answer, r.place, r.packet == Packet::default(), packet_fields(r.packet))
 }
 
 fn read_cv_line(m: &[u8]) -> Shown {
@@ -505,28 +506,31 @@ fn read_cv_line(m: &[u8]) -> Shown {
     let part = r.part as usize;
     let noughts = r.packet == Packet::default() && r.mep == MepId::default() && part == 0;
     let part = if noughts { &[] } else { m.get(part..part + 16).ok_or("the part is not in the message")? };
-    read(r.answer, noughts, format!("{}, {id}, {}", packet_fields(r.packet), hex(part)))
+    read(r.answer, r.place, noughts, format!("{}, {id}, {}", packet_fields(r.packet), hex(part)))
 }
 
 fn read_fault_line(m: &[u8]) -> Shown {
     let r = read_fault(m);
-    read(r.answer, r.fault == Fault::default(), fault_fields(r.fault))
+    read(r.answer, r.place, r.fault == Fault::default(), fault_fields(r.fault))
 }
 
-/// The channel of a header alone. The reader of its kind finds it short and the other two another
-/// channel; a header that is refused is refused by all three. So it is where it comes in on a label.
+/// The channel of a header alone. The reader of its kind finds it short, of all its octets, and the
+/// other two another channel, at 2; a header that is refused is refused by all three, at one place. So
+/// it is where it comes in on a label.
 fn kind_line(m: &[u8]) -> Shown {
-    let answers = [read_cc(m).answer, read_cv(m).answer, read_fault(m).answer];
+    let (cc, cv, fault) = (read_cc(m), read_cv(m), read_fault(m));
+    let answers = [(cc.answer, cc.place), (cv.answer, cv.place), (fault.answer, fault.place)];
+    let (short, other) = ((3, m.len() as u64), (5, 2));
+    let (shown, expected) = match answers {
+        a if a == [short, other, other] => ("0, 34".to_string(), 3),
+        a if a == [other, short, other] => ("0, 35".to_string(), 3),
+        a if a == [other, other, short] => ("0, 88".to_string(), 3),
+        [(n, place), _, _] if answers == [(n, place); 3] => (format!("{n} {place}"), n),
+        _ => return Err(format!("the readers answer {answers:?}")),
+    };
     let mut t = empty_table()?;
     let opened = t.open(settings(LABEL, 17, 1_000_000), 0);
     let received = t.receive(LABEL, m, 0);
-    let (shown, expected) = match answers {
-        [3, 5, 5] => ("0, 34".to_string(), 3),
-        [5, 3, 5] => ("0, 35".to_string(), 3),
-        [5, 5, 3] => ("0, 88".to_string(), 3),
-        [n, _, _] if answers == [n; 3] => (n.to_string(), n),
-        _ => return Err(format!("the readers answer {answers:?}")),
-    };
     if (opened, received) != (0, expected) {
         return Err(format!("{shown}, and received it is answered {received}"));
     }

@@ -106,9 +106,21 @@ static struct said make(struct korvezul_session *row, size_t n, struct korvezul_
     return s;
 }
 
+/* Where a message that was received went wrong, which receive does not say: by the reader of its
+ * channel. Of a header that is refused all three say the same. */
+static uint64_t place_of(const uint8_t *o, size_t n) {
+    if (n >= 4 && o[3] == 0x23)
+        return korvezul_read_cv(o, n).place;
+    if (n >= 4 && o[3] == 0x58)
+        return korvezul_read_fault(o, n).place;
+    return korvezul_read_cc(o, n).place;
+}
+
 /* The line that `watch` prints for a record. */
 static void line(uint64_t number, const struct call *c, const struct said *s) {
     printf("%" PRIu64 " %" PRIu32, number, s->answer);
+    if (c->kind == RECEIVE && s->answer >= KORVEZUL_SHORT && s->answer <= KORVEZUL_FAULT)
+        printf(" %" PRIu64, place_of(c->octets, c->size));
     if (s->answer == 0 && c->kind == REPORT)
         printf(" %d %d %d %d %d %d %d", s->report.state, s->report.crossing, s->report.loss, s->report.alarm,
                s->report.rdi, s->report.blocked, s->report.conditions);
@@ -425,6 +437,52 @@ static void look(const struct table *before, const struct table *after, size_t n
              "what is written is not read");
 }
 
+static int is_nought(const void *at, size_t n) {
+    const uint8_t *o = at;
+    while (n > 0 && o[n - 1] == 0)
+        n--;
+    return n == 0;
+}
+
+/* What a reader says beside its fields: a place that fits the answer, and noughts beside a refusal. */
+static void look_at_place(uint32_t answer, uint64_t place, size_t n, int noughts) {
+    must(answer == 0 || noughts, "a refused message shows something");
+    switch (answer) {
+    case KORVEZUL_ACCEPTED: must(place >= 9 && place <= n, "a message uses octets that are not there"); break;
+    case KORVEZUL_SHORT: must(place == n, "a message is too short at another place than its end"); break;
+    case KORVEZUL_HEADER: must(place == 0, "a header is wrong at another place than 0"); break;
+    case KORVEZUL_CHANNEL: must(place == 2, "a channel is wrong at another place than 2"); break;
+    case KORVEZUL_BFD: must((place >= 4 && place <= 8) || place == 12, "no field of a packet"); break;
+    case KORVEZUL_MEP_ID: must(place >= 28 && place < n, "no field of a MEP-ID"); break;
+    case KORVEZUL_FAULT: must(place >= 4 && place < n, "no field of a fault message"); break;
+    default: must(0, "an answer that no reader gives");
+    }
+}
+
+/* The octets that an accepted message uses are enough, and one less is too few. */
+static void look_at_used(uint32_t enough, uint32_t less) {
+    must(enough == KORVEZUL_ACCEPTED, "the octets used are not accepted");
+    must(less == KORVEZUL_SHORT, "one octet less than the octets used is not too short");
+}
+
+static void look_at_places(const uint8_t *o, size_t n) {
+    struct korvezul_cc_read cc = korvezul_read_cc(o, n);
+    struct korvezul_cv_read cv = korvezul_read_cv(o, n);
+    struct korvezul_fault_read fault = korvezul_read_fault(o, n);
+    look_at_place(cc.answer, cc.place, n, is_nought(&cc.packet, 27));
+    look_at_place(cv.answer, cv.place, n,
+                  is_nought(&cv.packet, 27) &&
+                      (cv.part | cv.mep.kind | cv.mep.global | cv.mep.node | cv.mep.local) == 0);
+    look_at_place(fault.answer, fault.place, n, is_nought(&fault.fault, 18));
+    if (cc.answer == 0)
+        look_at_used(korvezul_read_cc(o, cc.place).answer, korvezul_read_cc(o, cc.place - 1).answer);
+    if (cv.answer == 0)
+        look_at_used(korvezul_read_cv(o, cv.place).answer, korvezul_read_cv(o, cv.place - 1).answer);
+    if (fault.answer == 0)
+        look_at_used(korvezul_read_fault(o, fault.place).answer,
+                     korvezul_read_fault(o, fault.place - 1).answer);
+}
+
 /* What an accepted message says can be written, and reads back to the same. */
 static void look_at_message(const struct lender *lent) {
     uint8_t m[128], again[128];
@@ -439,6 +497,7 @@ static void look_at_message(const struct lender *lent) {
     cv = korvezul_read_cv(o, n);
     fault = korvezul_read_fault(o, n);
     must((cc.answer == 0) + (cv.answer == 0) + (fault.answer == 0) <= 1, "one message of two kinds");
+    look_at_places(o, n);
     if (cc.answer == 0) {
         struct korvezul_cc_read r;
         must(korvezul_write_cc_message(again, 28, cc.packet) == 0, "a CC that was read is not written");

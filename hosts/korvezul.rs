@@ -4,8 +4,8 @@
 use std::mem::{align_of, offset_of, size_of};
 
 pub const RECORDS: usize = 64;
-/// The version of the header that these declarations follow, 1.0.0.
-pub const VERSION: u32 = 0x010000;
+/// The version of the header that these declarations follow, 2.0.0.
+pub const VERSION: u32 = 0x020000;
 
 #[repr(C)]
 #[derive(Clone, Copy, Debug, Default, PartialEq)]
@@ -120,12 +120,14 @@ pub struct Fault {
 
 #[repr(C)]
 pub struct CcRead {
+    pub place: u64,
     pub answer: u32,
     pub packet: Packet,
 }
 
 #[repr(C)]
 pub struct CvRead {
+    pub place: u64,
     pub answer: u32,
     pub part: u32,
     pub packet: Packet,
@@ -134,6 +136,7 @@ pub struct CvRead {
 
 #[repr(C)]
 pub struct FaultRead {
+    pub place: u64,
     pub answer: u32,
     pub fault: Fault,
 }
@@ -144,8 +147,9 @@ const _: () = {
     assert!(offset_of!(Session, peer) == 160 && offset_of!(Session, state) == 168 && size_of::<Settings>() == 48);
     assert!(size_of::<Condition>() == 24 && offset_of!(Condition, refresh) == 20 && size_of::<Head>() == 16);
     assert!(size_of::<ReportAnswer>() == 12 && size_of::<Packet>() == 28 && size_of::<Fault>() == 20);
-    assert!(size_of::<CcRead>() == 32 && size_of::<CvRead>() == 52 && size_of::<FaultRead>() == 24);
-    assert!(offset_of!(CvRead, mep) == 36 && offset_of!(CcRead, packet) == 4 && offset_of!(CvRead, packet) == 8);
+    assert!(size_of::<CcRead>() == 40 && size_of::<CvRead>() == 64 && size_of::<FaultRead>() == 32);
+    assert!(offset_of!(CcRead, answer) == 8 && offset_of!(CcRead, packet) == 12 && offset_of!(FaultRead, fault) == 12);
+    assert!(offset_of!(CvRead, part) == 12 && offset_of!(CvRead, packet) == 16 && offset_of!(CvRead, mep) == 44);
 };
 
 extern "C" {

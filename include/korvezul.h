@@ -29,9 +29,9 @@
 extern "C" {
 #endif
 
-/* The version of this header: 0x010000 is 1.0.0. korvezul_version() is the archive's; another major
+/* The version of this header: 0x020000 is 2.0.0. korvezul_version() is the archive's; another major
  * number is another layout or another meaning, and the two must agree in it. */
-#define KORVEZUL_VERSION_MAJOR 1
+#define KORVEZUL_VERSION_MAJOR 2
 #define KORVEZUL_VERSION_MINOR 0
 #define KORVEZUL_VERSION_PATCH 0
 #define KORVEZUL_VERSION \
@@ -176,15 +176,28 @@ struct korvezul_fault {
     uint8_t has_global_id;
 };
 
-/* What a reader answers: 0 and the fields, or a refusal and noughts. Octets behind a message are
- * padding and are ignored. */
+/* What a reader answers: 0 and the fields, or a refusal and noughts; and beside either a place, an
+ * offset from the first octet of the message. Octets behind a message are padding and are ignored.
+ * By the answer, `place` is
+ *   0  the octets that the message uses, padding left out: of a CC 4 + Length, of a CV 4 + Length + 4 +
+ *      the MEP-ID's length, of a fault message 9 + the TLVs' total
+ *   3  the octets that were handed in
+ *   4  0: nibble and G-ACh version are octet 0
+ *   5  2, where the channel type starts
+ *   6  the field that breaks the rule: 4 version, 5 A or M, 6 multiplier, 7 Length, 8 My, 12 Your
+ *   7  the MEP-ID's type, at 4 + Length, or its length, at 4 + Length + 2
+ *   8  4 version, 5 type, 7 refresh; of the first wrong TLV its type octet if it is one stray octet,
+ *      the second of a type 1 or 2, or goes past the total, else its length octet
+ * Of several such fields it is the earliest. A place may be 0 beside a refusal: the answer tells. */
 struct korvezul_cc_read {
+    uint64_t place;
     uint32_t answer;
     struct korvezul_packet packet;
 };
 
 /* The MEP-ID part of an accepted CV, type to end, is the 16 octets of the message from `part` on. */
 struct korvezul_cv_read {
+    uint64_t place;
     uint32_t answer;
     uint32_t part;
     struct korvezul_packet packet;
@@ -192,6 +205,7 @@ struct korvezul_cv_read {
 };
 
 struct korvezul_fault_read {
+    uint64_t place;
     uint32_t answer;
     struct korvezul_fault fault;
 };
@@ -238,7 +252,8 @@ uint32_t korvezul_write_cc(struct korvezul_session *row, size_t records, struct 
 uint32_t korvezul_write_cv(struct korvezul_session *row, size_t records, struct korvezul_head *head,
                            uint32_t label, uint8_t *buffer, size_t size);
 
-/* Messages alone, without a table. */
+/* Messages alone, without a table. Refusals: a CC 3, 4, 5, 3, 6, 3; a CV 3, 4, 5, 3, 6, 3, 7; a fault
+ * message 3, 4, 5, 3, 8, 3, 8. */
 
 struct korvezul_cc_read korvezul_read_cc(const uint8_t *message, size_t octets);
 struct korvezul_cv_read korvezul_read_cv(const uint8_t *message, size_t octets);
@@ -355,22 +370,25 @@ KORVEZUL_PLACE(fault, refresh, 15);
 KORVEZUL_PLACE(fault, has_if_id, 16);
 KORVEZUL_PLACE(fault, has_global_id, 17);
 
-KORVEZUL_SIZE(cc_read, 32);
-KORVEZUL_ALIGNED(cc_read, 4);
-KORVEZUL_PLACE(cc_read, answer, 0);
-KORVEZUL_PLACE(cc_read, packet, 4);
+KORVEZUL_SIZE(cc_read, 40);
+KORVEZUL_ALIGNED(cc_read, 8);
+KORVEZUL_PLACE(cc_read, place, 0);
+KORVEZUL_PLACE(cc_read, answer, 8);
+KORVEZUL_PLACE(cc_read, packet, 12);
 
-KORVEZUL_SIZE(cv_read, 52);
-KORVEZUL_ALIGNED(cv_read, 4);
-KORVEZUL_PLACE(cv_read, answer, 0);
-KORVEZUL_PLACE(cv_read, part, 4);
-KORVEZUL_PLACE(cv_read, packet, 8);
-KORVEZUL_PLACE(cv_read, mep, 36);
+KORVEZUL_SIZE(cv_read, 64);
+KORVEZUL_ALIGNED(cv_read, 8);
+KORVEZUL_PLACE(cv_read, place, 0);
+KORVEZUL_PLACE(cv_read, answer, 8);
+KORVEZUL_PLACE(cv_read, part, 12);
+KORVEZUL_PLACE(cv_read, packet, 16);
+KORVEZUL_PLACE(cv_read, mep, 44);
 
-KORVEZUL_SIZE(fault_read, 24);
-KORVEZUL_ALIGNED(fault_read, 4);
-KORVEZUL_PLACE(fault_read, answer, 0);
-KORVEZUL_PLACE(fault_read, fault, 4);
+KORVEZUL_SIZE(fault_read, 32);
+KORVEZUL_ALIGNED(fault_read, 8);
+KORVEZUL_PLACE(fault_read, place, 0);
+KORVEZUL_PLACE(fault_read, answer, 8);
+KORVEZUL_PLACE(fault_read, fault, 12);
 
 #undef KORVEZUL_ALIGNED
 #undef KORVEZUL_SIZE

@@ -1,33 +1,38 @@
--- What a host gains by the exported readers and writers: fields go to numbers and back, what is written reads back, and the place that the reader of a CV hands out is that of the caller's own stretch.
+-- What a host gains by the exported readers and writers: fields go to numbers and back, what is written reads back and uses the octets that were written, and the part that the reader of a
+-- CV hands out is the caller's own stretch.
 -- Assumes nothing.
-use mathlib.Core.Path.{_≡_, refl, ap, _∙_}
+use mathlib.Core.Path.{_≡_, refl, sym, ap, _∙_}
 use mathlib.Core.Bool.{true}
 use mathlib.Core.List.{List, _++_}
 use Prim.Native.Nat.{ℕ, zero, suc, _<_}
 use native.Mathlib.Omega.{arith}
 use lib.Dec.{leb, eqb}
-use lib.ListN.{take, drop}
+use lib.ListN.{length, take, drop}
 use borrow.Author.Tests.{eq-eqb, eqb-true, leb-true}
-use Rattle.octets.specs.Choice.{bitOf}
-use Rattle.octets.proofs.Chain.{bit-back, bit-again, need-passed, orElse-passed}
+use Rattle.octets.specs.Choice.{bitOf, accepted}
+use Rattle.octets.proofs.Chain.{bit-back, bit-again, need-passed, orElse-passed, answer-accepted}
 use Rattle.bfd.specs.declared.Packet.{Packet}
-use Rattle.bfd.specs.Packet.{Sized}
-use Rattle.bfd.specs.Reception.{readCc}
-use Rattle.bfd.specs.Octets.{ccOctets, ccFieldRefusal}
+use Rattle.bfd.specs.Packet.{packetOf, Sized}
+use Rattle.bfd.specs.Reception.{ccRefusal, readCc, ccEnd, ccReading}
+use Rattle.bfd.specs.Octets.{packetOctets, ccOctets, ccFieldRefusal}
 use Rattle.bfd.proofs.RoundTrip as bfd
+use Rattle.bfd.proofs.Used as cc-octets
 use Rattle.cv.specs.declared.MepId.{MepId}
-use Rattle.cv.specs.MepId.{MepSized}
-use Rattle.cv.specs.Cv.{mepAt, mepPart, partAt, readCv, cvRefusal, cvOctets, cvFieldRefusal}
+use Rattle.cv.specs.declared.Verification.{Verification}
+use Rattle.cv.specs.MepId.{mepOctets, MepSized}
+use Rattle.cv.specs.Cv.{mepAt, mepPart, partAt, verificationOf, readCv, cvRefusal, cvEnd, cvReading, cvOctets, cvFieldRefusal}
 use Rattle.cv.proofs.RoundTrip as cv
+use Rattle.cv.proofs.Used as cv-octets
 use Rattle.fault.specs.declared.Fault.{Fault}
 use Rattle.fault.specs.declared.IfId.{IfId}
 use Rattle.fault.specs.declared.IfId.the-variants.{Absent as NoIfId, Present as AnIfId}
 use Rattle.fault.specs.declared.GlobalId.{GlobalId}
 use Rattle.fault.specs.declared.GlobalId.the-variants.{Absent as NoGlobalId, Present as AGlobalId}
-use Rattle.fault.specs.Message.{readFault}
+use Rattle.fault.specs.Message.{tlvsEnd, faultRefusal, faultOf, readFault, faultReading}
 use Rattle.fault.specs.Octets.{faultOctets, fieldRefusal}
 use Rattle.fault.specs.Plain.{Sized as FaultSized}
 use Rattle.fault.proofs.RoundTrip as fault
+use Rattle.fault.proofs.Earliest as fault-octets
 use Rattle.rules.specs.Conditions.{keyWith}
 use Rattle.rules.proofs.Bools.{split}
 use Rattle.korvezul.specs.declared.fields.PacketFields.{PacketFields}
@@ -57,18 +62,42 @@ fields-back f e =
     let s = need-passed (leb (f .demand) 1) 9 _ (r .1) in
     rw (mark (f .poll) _ p, mark (f .fin) _ q, mark (f .independent) _ r, mark (f .demand) _ s)
 
--- what a host writes, a host reads, whatever stands behind it
+-- what the reader of a CC says of an accepted one: its fields, and as the place the octets that it uses
+pub cc-accepted : (m : List ℕ) (p : Packet) → readCc m ≡ accepted p → ccRead (ccReading m) ≡ record { place = ccEnd m; answer = 0; packet = packetFields p }
+unfolding readCc
+cc-accepted m p e =
+    let r = answer-accepted (ccRefusal m) p (packetOf m) (sym e) in
+    rw (cc-octets.place-used m (r .0), e)
+
+pub cv-accepted : (m : List ℕ) (part : ℕ) (v : Verification) → readCv m ≡ accepted v
+    → cvRead part (cvReading m) ≡ record { place = cvEnd m; answer = 0; part = part; packet = packetFields (v .packet); mep = v .mep }
+unfolding readCv
+cv-accepted m part v e =
+    let r = answer-accepted (cvRefusal m) v (verificationOf m) (sym e) in
+    rw (cv-octets.place-used m (r .0), e)
+
+pub fault-accepted : (m : List ℕ) (f : Fault) → readFault m ≡ accepted f → faultRead (faultReading m) ≡ record { place = tlvsEnd m; answer = 0; fault = faultFields f }
+unfolding readFault
+fault-accepted m f e =
+    let r = answer-accepted (faultRefusal m) f (faultOf m) (sym e) in
+    rw (fault-octets.place-used m (r .0), e)
+
+-- what a host writes, a host reads, whatever stands behind it; the octets that were written are those used
 pub cc-there-and-back : (f : PacketFields) (pad : List ℕ) → Sized (packetFrom f) → ccWriteRefusal f ≡ 0
-    → ccRead (readCc (ccOctets (packetFrom f) ++ pad)) ≡ record { answer = 0; packet = f }
+    → ccRead (ccReading (ccOctets (packetFrom f) ++ pad)) ≡ record { place = 28; answer = 0; packet = f }
+unfolding packetOctets
 cc-there-and-back f pad s e =
     let o = orElse-passed (packetMarks f) (ccFieldRefusal (packetFrom f)) e in
-    ap ccRead (bfd.read-written (packetFrom f) pad s (o .1)) ∙ ap {B = CcRead} (λ (g : PacketFields). record { answer = 0; packet = g }) (fields-back f (o .0))
+    cc-accepted (ccOctets (packetFrom f) ++ pad) (packetFrom f) (bfd.read-written (packetFrom f) pad s (o .1))
+    ∙ ap {B = CcRead} (λ (g : PacketFields). record { place = 28; answer = 0; packet = g }) (fields-back f (o .0))
 
 pub cv-there-and-back : (f : PacketFields) (id : MepId) (part : ℕ) (pad : List ℕ) → Sized (packetFrom f) → MepSized id → cvWriteRefusal f id ≡ 0
-    → cvRead part (readCv (cvOctets (packetFrom f) id ++ pad)) ≡ record { answer = 0; part = part; packet = f; mep = id }
+    → cvRead part (cvReading (cvOctets (packetFrom f) id ++ pad)) ≡ record { place = 44; answer = 0; part = part; packet = f; mep = id }
+unfolding packetOctets mepOctets
 cv-there-and-back f id part pad s t e =
     let o = orElse-passed (packetMarks f) (cvFieldRefusal (packetFrom f) id) e in
-    ap (cvRead part) (cv.read-written (packetFrom f) id pad s t (o .1)) ∙ ap {B = CvRead} (λ (g : PacketFields). record { answer = 0; part = part; packet = g; mep = id }) (fields-back f (o .0))
+    cv-accepted (cvOctets (packetFrom f) id ++ pad) part _ (cv.read-written (packetFrom f) id pad s t (o .1))
+    ∙ ap {B = CvRead} (λ (g : PacketFields). record { place = 44; answer = 0; part = part; packet = g; mep = id }) (fields-back f (o .0))
 
 if-id-back : (k : ℕ) (i : IfId) → ifIdFrom (keyWith k i .present) (keyWith k i .node) (keyWith k i .interface) ≡ i
 if-id-back k NoIfId = refl
@@ -142,19 +171,30 @@ fault-fields-back f e =
     let global = m .global in
     rw (bit-again (f .linkdown) (m .linkdown), bit-again (f .removed) (m .removed), if-id-again, global-id-again)
 
+-- a written fault message ends where its own total has it
+written-end : (f : Fault) (i : IfId) (g : GlobalId) (pad : List ℕ) → f .interface ≡ i → f .global ≡ g
+    → tlvsEnd (faultOctets f ++ pad) ≡ length (faultOctets f)
+unfolding faultOctets
+written-end f NoIfId NoGlobalId pad d e = rw (d, e)
+written-end f NoIfId (AGlobalId n) pad d e = rw (d, e)
+written-end f (AnIfId n m) NoGlobalId pad d e = rw (d, e)
+written-end f (AnIfId n m) (AGlobalId k) pad d e = rw (d, e)
+
 -- what a host writes, a host reads, whatever stands behind it: no field is lost
 pub fault-there-and-back : (f : FaultFields) (pad : List ℕ) → FaultSized (faultFrom f) → faultWriteRefusal f ≡ 0
-    → faultRead (readFault (faultOctets (faultFrom f) ++ pad)) ≡ record { answer = 0; fault = f }
+    → faultRead (faultReading (faultOctets (faultFrom f) ++ pad)) ≡ record { place = length (faultOctets (faultFrom f)); answer = 0; fault = f }
 fault-there-and-back f pad s e =
-    let o = orElse-passed (faultMarks f) (fieldRefusal (faultFrom f)) e in
-    ap faultRead (fault.read-written (faultFrom f) pad s (o .1)) ∙ ap {B = FaultRead} (λ (g : FaultFields). record { answer = 0; fault = g }) (fault-fields-back f (o .0))
+    let m = faultFrom f in
+    let o = orElse-passed (faultMarks f) (fieldRefusal m) e in
+    fault-accepted (faultOctets m ++ pad) m (fault.read-written m pad s (o .1))
+    ∙ rw (written-end m (m .interface) (m .global) pad refl refl, fault-fields-back f (o .0))
 
 -- the stretch of an accepted CV stands at the place that its reader hands out
-pub part-stands : (m : List ℕ) → cvRefusal m ≡ 0 → mepPart m ≡ take 16 (drop (cvRead (mepAt m) (readCv m) .part) m)
+pub part-stands : (m : List ℕ) → cvRefusal m ≡ 0 → mepPart m ≡ take 16 (drop (cvRead (mepAt m) (cvReading m) .part) m)
 unfolding mepPart readCv
 part-stands m e = rw (eq-eqb (cvRefusal m) 0 e)
 
 -- and where `cv::mep_part` says that its part lies, of a refused message too
-pub part-lies : (m : List ℕ) → cvRead (mepAt m) (readCv m) .part ≡ partAt m
+pub part-lies : (m : List ℕ) → cvRead (mepAt m) (cvReading m) .part ≡ partAt m
 unfolding partAt readCv
 part-lies m = split (eqb (cvRefusal m) 0) (λ e. rw e) (λ e. rw e)

@@ -12,12 +12,12 @@ use Rattle.octets.proofs.Numbers.{read-of}
 use Rattle.octets.proofs.Chain.{bit-again, orElse-passed}
 use Rattle.bfd.specs.declared.Packet.{Packet}
 use Rattle.bfd.specs.Packet.{flagOctet, packetOf, Sized}
-use Rattle.bfd.specs.Reception.{ccRefusal, readCc}
+use Rattle.bfd.specs.Reception.{ccRefusal, readCc, ccPlace, ccReading}
 use Rattle.bfd.specs.Octets.{packetOctets, ccOctets}
 use Rattle.cv.specs.declared.MepId.{MepId}
 use Rattle.cv.specs.declared.Verification.{Verification}
 use Rattle.cv.specs.MepId.{MepSized}
-use Rattle.cv.specs.Cv.{mepAt, readCv, cvRefusal, verificationOf, cvOctets}
+use Rattle.cv.specs.Cv.{mepAt, readCv, cvRefusal, verificationOf, cvPlace, cvReading, cvOctets}
 use Rattle.cv.proofs.Says.{cv-says}
 use Rattle.fault.specs.Octets.{faultOctets, fieldRefusal}
 use Rattle.fault.specs.Plain.{Sized as FaultSized}
@@ -26,7 +26,7 @@ use Rattle.korvezul.specs.declared.fields.FaultFields.{FaultFields}
 use Rattle.korvezul.specs.declared.readers.CcRead.{CcRead}
 use Rattle.korvezul.specs.declared.readers.CvRead.{CvRead}
 use Rattle.korvezul.specs.Fields.{packetFields, packetFrom, faultFrom, faultMarks}
-use Rattle.korvezul.specs.Messages.{ccRead, cvRead, ccWriteRefusal, cvWriteRefusal, faultWriteRefusal}
+use Rattle.korvezul.specs.Messages.{ccBy, ccRead, cvBy, cvRead, ccWriteRefusal, cvWriteRefusal, faultWriteRefusal}
 use Rattle.korvezul.specs.OnTheLine.{PacketStands, MepStands, IfIdStands, GlobalIdStands, FaultStands}
 use Rattle.korvezul.proofs.Messages.{cc-there-and-back, cv-there-and-back, MarksSay, marks-say}
 
@@ -35,13 +35,13 @@ read-accepted : {A : Type 0} (n : ℕ) (a : A) → number (answer n a) ≡ 0 →
 read-accepted zero a e = (refl, refl)
 read-accepted (suc n) a e = absurd (omega (arith, rw (eqb·suc-zero n) at e))
 
-cc-number : (x : Answer Packet) → ccRead x .answer ≡ number x
-cc-number (accepted p) = refl
-cc-number (refused n) = refl
+cc-number : (place : ℕ) (x : Answer Packet) → ccBy place x .answer ≡ number x
+cc-number place (accepted p) = refl
+cc-number place (refused n) = refl
 
-cv-number : (part : ℕ) (x : Answer Verification) → cvRead part x .answer ≡ number x
-cv-number part (accepted p) = refl
-cv-number part (refused n) = refl
+cv-number : (part place : ℕ) (x : Answer Verification) → cvBy part place x .answer ≡ number x
+cv-number part place (accepted p) = refl
+cv-number part place (refused n) = refl
 
 packet-stands : (m : List ℕ) → PacketStands m (packetFields (packetOf m))
 unfolding packetOf
@@ -63,20 +63,20 @@ packet-stands m =
     }
 
 -- what the reader of a CC hands out under 0
-pub cc-read-stands : (m : List ℕ) → ccRead (readCc m) .answer ≡ 0 → PacketStands m (ccRead (readCc m) .packet)
+pub cc-read-stands : (m : List ℕ) → ccRead (ccReading m) .answer ≡ 0 → PacketStands m (ccRead (ccReading m) .packet)
 unfolding readCc
 cc-read-stands m e =
-    let r = read-accepted (ccRefusal m) (packetOf m) (sym (cc-number (readCc m)) ∙ e) in
-    subst (λ (x : Answer Packet). PacketStands m (ccRead x .packet)) (sym (r .1)) (packet-stands m)
+    let r = read-accepted (ccRefusal m) (packetOf m) (sym (cc-number (ccPlace m) (readCc m)) ∙ e) in
+    subst (λ (x : Answer Packet). PacketStands m (ccBy (ccPlace m) x .packet)) (sym (r .1)) (packet-stands m)
 
 -- and the reader of a CV: the packet, and the MEP-ID from the place that it hands out
-pub cv-read-stands : (m : List ℕ) → cvRead (mepAt m) (readCv m) .answer ≡ 0
-    → PacketStands m (cvRead (mepAt m) (readCv m) .packet) × MepStands m (cvRead (mepAt m) (readCv m) .part) (cvRead (mepAt m) (readCv m) .mep)
+pub cv-read-stands : (m : List ℕ) → cvRead (mepAt m) (cvReading m) .answer ≡ 0
+    → PacketStands m (cvRead (mepAt m) (cvReading m) .packet) × MepStands m (cvRead (mepAt m) (cvReading m) .part) (cvRead (mepAt m) (cvReading m) .mep)
 unfolding readCv
 cv-read-stands m e =
-    let r = read-accepted (cvRefusal m) (verificationOf m) (sym (cv-number (mepAt m) (readCv m)) ∙ e) in
+    let r = read-accepted (cvRefusal m) (verificationOf m) (sym (cv-number (mepAt m) (cvPlace m) (readCv m)) ∙ e) in
     let mep : MepStands m (mepAt m) (verificationOf m .mep) = record { kind = refl; size = cv-says m (r .0) .size; global = refl; node = refl; local = refl } in
-    subst (λ (x : Answer Verification). PacketStands m (cvRead (mepAt m) x .packet) × MepStands m (cvRead (mepAt m) x .part) (cvRead (mepAt m) x .mep)) (sym (r .1)) (packet-stands m, mep)
+    subst (λ (x : Answer Verification). PacketStands m (cvBy (mepAt m) (cvPlace m) x .packet) × MepStands m (cvBy (mepAt m) (cvPlace m) x .part) (cvBy (mepAt m) (cvPlace m) x .mep)) (sym (r .1)) (packet-stands m, mep)
 
 -- what the writer of a CC is handed, and does not refuse
 pub cc-written-stands : (f : PacketFields) (pad : List ℕ) → Sized (packetFrom f) → ccWriteRefusal f ≡ 0 → PacketStands (ccOctets (packetFrom f) ++ pad) f

@@ -70,11 +70,11 @@ packet-laid = record { octets = refl; aligned = refl; fields = (refl, (refl, (re
 pub fault-laid : Laid fault 20 4 (0 ∷ 4 ∷ 8 ∷ 12 ∷ 13 ∷ 14 ∷ 15 ∷ 16 ∷ 17 ∷ [])
 fault-laid = record { octets = refl; aligned = refl; fields = (refl, (refl, (refl, (refl, (refl, (refl, (refl, (refl, (refl, refl))))))))) }
 
-pub cc-read-laid : Laid cc-read 32 4 (0 ∷ 4 ∷ [])
-cc-read-laid = record { octets = refl; aligned = refl; fields = (refl, (refl, refl)) }
+pub cc-read-laid : Laid cc-read 40 8 (0 ∷ 8 ∷ 12 ∷ [])
+cc-read-laid = record { octets = refl; aligned = refl; fields = (refl, (refl, (refl, refl))) }
 
-pub cv-read-laid : Laid cv-read 52 4 (0 ∷ 4 ∷ 8 ∷ 36 ∷ [])
-cv-read-laid = record { octets = refl; aligned = refl; fields = (refl, (refl, (refl, (refl, refl)))) }
+pub cv-read-laid : Laid cv-read 64 8 (0 ∷ 8 ∷ 12 ∷ 16 ∷ 44 ∷ [])
+cv-read-laid = record { octets = refl; aligned = refl; fields = (refl, (refl, (refl, (refl, (refl, refl))))) }
 
-pub fault-read-laid : Laid fault-read 24 4 (0 ∷ 4 ∷ [])
-fault-read-laid = record { octets = refl; aligned = refl; fields = (refl, (refl, refl)) }
+pub fault-read-laid : Laid fault-read 32 8 (0 ∷ 8 ∷ 12 ∷ [])
+fault-read-laid = record { octets = refl; aligned = refl; fields = (refl, (refl, (refl, refl))) }

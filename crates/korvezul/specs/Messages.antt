@@ -1,7 +1,7 @@
 -- What the exported readers and writers of messages answer: one record of numbers, and the lent buffer afterwards.
 -- Assumes nothing.
 use Prim.Native.Nat.{ℕ}
-use Rattle.octets.specs.Choice.{Answer, accepted, refused, orElse}
+use Rattle.octets.specs.Choice.{Answer, accepted, refused, Placed, orElse}
 use Rattle.bfd.specs.declared.Packet.{Packet}
 use Rattle.bfd.specs.Octets.{ccFieldRefusal}
 use Rattle.cv.specs.declared.MepId.{MepId}
@@ -28,19 +28,28 @@ abbrev pub noFault : FaultFields
 noFault =
     record { node = 0; interface = 0; global = 0; kind = 0; linkdown = 0; removed = 0; refresh = 0; ifid = 0; globalid = 0 }
 
--- what the reader of a CC says: 0 and the fields, or the refusal's number alone
-abbrev pub ccRead : Answer Packet → CcRead
-ccRead (accepted p) = record { answer = 0; packet = packetFields p }
-ccRead (refused n) = record { answer = n; packet = noPacket }
+-- what the reader of a CC says: the place, and 0 and the fields, or the refusal's number and noughts
+abbrev pub ccBy : ℕ → Answer Packet → CcRead
+ccBy place (accepted p) = record { place = place; answer = 0; packet = packetFields p }
+ccBy place (refused n) = record { place = place; answer = n; packet = noPacket }
+
+abbrev pub ccRead : Placed Packet → CcRead
+ccRead r = ccBy (r .place) (r .answer)
 
 -- the same for a CV, with the place in the message from which its MEP-ID part stands, type to end, in 16 octets
-abbrev pub cvRead : ℕ → Answer Verification → CvRead
-cvRead part (accepted v) = record { answer = 0; part = part; packet = packetFields (v .packet); mep = v .mep }
-cvRead part (refused n) = record { answer = n; part = 0; packet = noPacket; mep = noMep }
+abbrev pub cvBy : ℕ → ℕ → Answer Verification → CvRead
+cvBy part place (accepted v) = record { place = place; answer = 0; part = part; packet = packetFields (v .packet); mep = v .mep }
+cvBy part place (refused n) = record { place = place; answer = n; part = 0; packet = noPacket; mep = noMep }
 
-abbrev pub faultRead : Answer Fault → FaultRead
-faultRead (accepted f) = record { answer = 0; fault = faultFields f }
-faultRead (refused n) = record { answer = n; fault = noFault }
+abbrev pub cvRead : ℕ → Placed Verification → CvRead
+cvRead part r = cvBy part (r .place) (r .answer)
+
+abbrev pub faultBy : ℕ → Answer Fault → FaultRead
+faultBy place (accepted f) = record { place = place; answer = 0; fault = faultFields f }
+faultBy place (refused n) = record { place = place; answer = n; fault = noFault }
+
+abbrev pub faultRead : Placed Fault → FaultRead
+faultRead r = faultBy (r .place) (r .answer)
 
 -- refusal 10 of fields in numbers: a mark above 1, or what the writer of the message refuses
 abbrev pub ccWriteRefusal : PacketFields → ℕ

@@ -1,5 +1,5 @@
 // The readers of messages, for a host: an answer is one struct of numbers, 0 and the fields, or a
-// refusal and noughts.
+// refusal and noughts; and in either case a place, where the message went wrong or the octets used.
 use crate::fields::FaultFields;
 use crate::fields::PacketFields;
 use crate::fields::fault_fields;
@@ -10,13 +10,14 @@ use cv::MepId;
 use fault::FaultAnswer;
 ghost use mathlib.Core.Path.{_≡_};
 ghost use Rattle.bfd.specs.Packet.{said as ccSaid};
-ghost use Rattle.bfd.specs.Reception.{readCc};
-ghost use Rattle.cv.specs.Cv.{said as cvSaid, readCv, mepAt};
-ghost use Rattle.fault.specs.Message.{said as faultSaid, readFault};
+ghost use Rattle.bfd.specs.Reception.{ccReading};
+ghost use Rattle.cv.specs.Cv.{said as cvSaid, cvReading, mepAt};
+ghost use Rattle.fault.specs.Message.{said as faultSaid, faultReading};
 ghost use Rattle.korvezul.specs.Messages.{noPacket, noMep, noFault, ccRead, cvRead, faultRead};
 
 #[repr(C)]
 pub struct CcRead {
+    pub place: u64,
     pub answer: u32,
     pub packet: PacketFields,
 }
@@ -25,6 +26,7 @@ pub struct CcRead {
 // stand, type to end.
 #[repr(C)]
 pub struct CvRead {
+    pub place: u64,
     pub answer: u32,
     pub part: u32,
     pub packet: PacketFields,
@@ -33,6 +35,7 @@ pub struct CvRead {
 
 #[repr(C)]
 pub struct FaultRead {
+    pub place: u64,
     pub answer: u32,
     pub fault: FaultFields,
 }
@@ -87,16 +90,18 @@ fn cc_read(a: CcAnswer) -> CcRead
     ensures { λ r. ⌜ r ≡ ccRead (ccSaid a) ⌝ }
 {
     match a {
-        CcAnswer::Read(p) => {
+        CcAnswer::Read(p, place) => {
             let f = packet_fields(p);
             CcRead {
+                place: place as u64,
                 answer: 0,
                 packet: f,
             }
         }
-        CcAnswer::Refused(n) => {
+        CcAnswer::Refused(n, place) => {
             let f = no_packet();
             CcRead {
+                place: place as u64,
                 answer: n,
                 packet: f,
             }
@@ -108,21 +113,23 @@ fn cv_read(part: u32, a: CvAnswer) -> CvRead
     ensures { λ r. ⌜ r ≡ cvRead part (cvSaid a) ⌝ }
 {
     match a {
-        CvAnswer::Read(v) => {
+        CvAnswer::Read(v, place) => {
             let p = v.packet;
             let f = packet_fields(p);
             let id = v.mep;
             CvRead {
+                place: place as u64,
                 answer: 0,
                 part: part,
                 packet: f,
                 mep: id,
             }
         }
-        CvAnswer::Refused(n) => {
+        CvAnswer::Refused(n, place) => {
             let f = no_packet();
             let id = no_mep();
             CvRead {
+                place: place as u64,
                 answer: n,
                 part: 0,
                 packet: f,
@@ -136,16 +143,18 @@ fn fault_read(a: FaultAnswer) -> FaultRead
     ensures { λ r. ⌜ r ≡ faultRead (faultSaid a) ⌝ }
 {
     match a {
-        FaultAnswer::Read(fault) => {
+        FaultAnswer::Read(fault, place) => {
             let f = fault_fields(fault);
             FaultRead {
+                place: place as u64,
                 answer: 0,
                 fault: f,
             }
         }
-        FaultAnswer::Refused(n) => {
+        FaultAnswer::Refused(n, place) => {
             let f = no_fault();
             FaultRead {
+                place: place as u64,
                 answer: n,
                 fault: f,
             }
@@ -156,7 +165,7 @@ fn fault_read(a: FaultAnswer) -> FaultRead
 // Reads a CC.
 #[no_mangle]
 pub extern "C" fn korvezul_read_cc(message: &[u8]) -> CcRead
-    ensures { λ r. ⌜ r ≡ ccRead (readCc (now (message .entry))) ⌝ }
+    ensures { λ r. ⌜ r ≡ ccRead (ccReading (now (message .entry))) ⌝ }
 {
     cc_read(bfd::read_cc(message))
 }
@@ -164,7 +173,7 @@ pub extern "C" fn korvezul_read_cc(message: &[u8]) -> CcRead
 // Reads a CV.
 #[no_mangle]
 pub extern "C" fn korvezul_read_cv(message: &[u8]) -> CvRead
-    ensures { λ r. ⌜ r ≡ cvRead (mepAt (now (message .entry))) (readCv (now (message .entry))) ⌝ }
+    ensures { λ r. ⌜ r ≡ cvRead (mepAt (now (message .entry))) (cvReading (now (message .entry))) ⌝ }
 {
     let length = octets::get_u8(message, 7);
     cv_read(4 + length as u32, cv::read_cv(message))
@@ -173,7 +182,7 @@ pub extern "C" fn korvezul_read_cv(message: &[u8]) -> CvRead
 // Reads a fault message.
 #[no_mangle]
 pub extern "C" fn korvezul_read_fault(message: &[u8]) -> FaultRead
-    ensures { λ r. ⌜ r ≡ faultRead (readFault (now (message .entry))) ⌝ }
+    ensures { λ r. ⌜ r ≡ faultRead (faultReading (now (message .entry))) ⌝ }
 {
     fault_read(fault::read_fault(message))
 }
