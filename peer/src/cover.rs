@@ -4,6 +4,7 @@ use crate::capture::{Kind, Next, Reader, Record};
 use crate::edges::{self, Edge};
 use crate::make;
 use crate::message::{self, Message};
+use crate::places;
 use crate::session::{Report, Session};
 use crate::table::{Answer, Table, LARGEST_READING};
 use std::io;
@@ -41,6 +42,7 @@ type Sides = [u64; 3];
 #[derive(Default)]
 struct Counts {
     answers: [[u64; 27]; 9],
+    places: [u64; places::NAMES.len()],
     states: [u64; 4],
     defects: [u64; 7],
     conditions: [u64; 5],
@@ -99,7 +101,12 @@ impl Counts {
         match &answer {
             Answer::Report(report) => self.add_report(report),
             Answer::Written(written) => self.add_written(written.octets()),
-            Answer::Accepted | Answer::Refused(_) => {}
+            Answer::Refused(refused) => {
+                if let Some(place) = places::number(refused, record.body) {
+                    self.places[place] += 1;
+                }
+            }
+            Answer::Accepted => {}
         }
     }
 
@@ -130,14 +137,16 @@ impl Counts {
             return;
         }
         let body = record.body;
-        let (kind, length) = match message::read(body) {
-            Ok(Message::Cc(_)) => (0, 4 + usize::from(body[7])),
-            Ok(Message::Cv(..)) => (1, 20 + usize::from(body[7])),
-            Ok(Message::Fault(_)) => (2, 9 + usize::from(body[8])),
-            Err(_) => return,
+        let Ok(read) = message::read(body) else {
+            return;
+        };
+        let kind = match read.message {
+            Message::Cc(_) => 0,
+            Message::Cv(..) => 1,
+            Message::Fault(_) => 2,
         };
         self.extras[kind] += 1;
-        self.extras[3] += u64::from(body.len() > length);
+        self.extras[3] += u64::from(body.len() > read.used);
         self.extras[4] += u64::from(kind < 2 && body[7] > 24);
     }
 
@@ -167,6 +176,7 @@ impl Counts {
 
     fn print(&self, output: &mut impl io::Write) -> io::Result<()> {
         self.print_answers(output)?;
+        print_named(output, "place", &places::NAMES, &self.places)?;
         print_named(output, "reported state", &STATES, &self.states)?;
         print_named(output, "reported", &DEFECTS, &self.defects)?;
         let numbers: Vec<String> = (0..5).map(|n| n.to_string()).collect();

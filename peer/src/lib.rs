@@ -16,6 +16,7 @@ pub mod make;
 pub mod message;
 pub mod octets;
 pub mod own;
+pub mod places;
 pub mod random;
 pub mod refusal;
 pub mod session;

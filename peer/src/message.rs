@@ -1,14 +1,19 @@
 //! Reading CC, CV and fault messages as they come off the associated channel.
+//!
+//! A message that cannot be read is refused with a place: the offset of the
+//! first octet of the field that broke the rule, the earliest if there are
+//! several, or the length of the message if it is too short.
 
 use crate::octets::{array, be16, be32};
-use crate::refusal::Refusal;
+use crate::refusal::{Refusal, Refused};
 
 /// Length of the associated channel header.
 const CHANNEL_HEADER: usize = 4;
 /// Length of the mandatory part of a BFD packet.
 const BFD_PACKET: usize = 24;
 /// Length of the MEP-ID part of a CV: type, length and twelve octets.
-const MEP_ID_PART: usize = 16;
+const MEP_ID_PART: usize = 4 + MEP_ID_VALUE;
+const MEP_ID_VALUE: usize = 12;
 /// Length of a fault message up to its TLVs, channel header included.
 const FAULT_HEAD: usize = 9;
 
@@ -89,42 +94,57 @@ pub enum Message {
     Fault(Fault),
 }
 
+/// A message that was read, and how many octets it takes without padding.
+#[derive(Clone, Copy, Debug, PartialEq, Eq)]
+pub struct Read {
+    pub message: Message,
+    pub used: usize,
+}
+
 /// Reads a message. Octets after its end are link padding.
-pub fn read(message: &[u8]) -> Result<Message, Refusal> {
-    if message.len() < CHANNEL_HEADER {
-        return Err(Refusal::Short);
-    }
+pub fn read(message: &[u8]) -> Result<Read, Refused> {
+    reach(message, CHANNEL_HEADER)?;
+    // First nibble and version share the first octet.
     if message[0] != 0x10 {
-        return Err(Refusal::ChannelHeader);
+        return Err(Refusal::ChannelHeader.at(0));
     }
     match be16(message, 2) {
         CHANNEL_CC => read_cc(message),
         CHANNEL_CV => read_cv(message),
         CHANNEL_FAULT => read_fault(message),
-        _ => Err(Refusal::ChannelType),
+        _ => Err(Refusal::ChannelType.at(2)),
     }
 }
 
-fn read_cc(message: &[u8]) -> Result<Message, Refusal> {
-    let bfd = read_bfd(message)?;
-    // Only in a CC does an unknown remote end contradict INIT or UP.
-    if bfd.your_discriminator == 0 && matches!(bfd.state, State::Init | State::Up) {
-        return Err(Refusal::Bfd);
+/// Refuses a message that ends before the octet `end`: its place is its length,
+/// padding included.
+fn reach(message: &[u8], end: usize) -> Result<(), Refused> {
+    match message.len() < end {
+        true => Err(Refusal::Short.at(message.len())),
+        false => Ok(()),
     }
-    if message.len() < bfd_end(message) {
-        return Err(Refusal::Short);
-    }
-    Ok(Message::Cc(bfd))
 }
 
-fn read_cv(message: &[u8]) -> Result<Message, Refusal> {
-    let bfd = read_bfd(message)?;
+fn read_cc(message: &[u8]) -> Result<Read, Refused> {
+    let bfd = read_bfd(message, true)?;
+    let used = bfd_end(message);
+    reach(message, used)?;
+    Ok(Read {
+        message: Message::Cc(bfd),
+        used,
+    })
+}
+
+fn read_cv(message: &[u8]) -> Result<Read, Refused> {
+    let bfd = read_bfd(message, false)?;
     let start = bfd_end(message);
-    if message.len() < start + MEP_ID_PART {
-        return Err(Refusal::Short);
-    }
-    let mep_id = read_mep_id(&message[start..start + MEP_ID_PART])?;
-    Ok(Message::Cv(bfd, mep_id))
+    let used = start + MEP_ID_PART;
+    reach(message, used)?;
+    let mep_id = read_mep_id(message, start)?;
+    Ok(Read {
+        message: Message::Cv(bfd, mep_id),
+        used,
+    })
 }
 
 /// Where the BFD packet ends by its own Length field.
@@ -132,96 +152,131 @@ fn bfd_end(message: &[u8]) -> usize {
     CHANNEL_HEADER + usize::from(message[7])
 }
 
-/// Reads the first 24 octets of the BFD packet by the reception rules that CC
-/// and CV share. Whether Length fits into the message is judged afterwards.
-fn read_bfd(message: &[u8]) -> Result<Bfd, Refusal> {
-    if message.len() < CHANNEL_HEADER + BFD_PACKET {
-        return Err(Refusal::Short);
-    }
-    let flags = message[5];
-    let authenticated = flags & 0x04 != 0;
-    let multipoint = flags & 0x01 != 0;
+/// Reads the first 24 octets of the BFD packet by the reception rules. Whether
+/// Length fits into the message is judged afterwards.
+fn read_bfd(message: &[u8], is_cc: bool) -> Result<Bfd, Refused> {
+    reach(message, CHANNEL_HEADER + BFD_PACKET)?;
     let bfd = Bfd {
         diagnostic: message[4] & 0x1f,
-        state: State::from_octet(flags),
-        poll: flags & 0x20 != 0,
+        state: State::from_octet(message[5]),
+        poll: message[5] & 0x20 != 0,
         multiplier: message[6],
         my_discriminator: be32(message, 8),
         your_discriminator: be32(message, 12),
     };
-    let broken = message[4] >> 5 != 1
-        || usize::from(message[7]) < BFD_PACKET
-        || bfd.multiplier == 0
-        || authenticated
-        || multipoint
-        || bfd.my_discriminator == 0;
-    if broken {
-        return Err(Refusal::Bfd);
+    match broken_field(message, &bfd, is_cc) {
+        Some(place) => Err(Refusal::Bfd.at(place)),
+        None => Ok(bfd),
     }
-    Ok(bfd)
 }
 
-fn read_mep_id(part: &[u8]) -> Result<MepId, Refusal> {
-    let kind = be16(part, 0);
-    if kind > 1 || be16(part, 2) != 12 {
-        return Err(Refusal::MepId);
+/// The earliest field of a BFD packet that breaks a reception rule.
+fn broken_field(message: &[u8], bfd: &Bfd, is_cc: bool) -> Option<usize> {
+    let version = message[4] >> 5;
+    let authenticated = message[5] & 0x04 != 0;
+    let multipoint = message[5] & 0x01 != 0;
+    let length = usize::from(message[7]);
+    // Only in a CC does an unknown remote end contradict INIT or UP.
+    let remote_needed = is_cc && matches!(bfd.state, State::Init | State::Up);
+    if version != 1 {
+        Some(4)
+    } else if authenticated || multipoint {
+        Some(5)
+    } else if bfd.multiplier == 0 {
+        Some(6)
+    } else if length < BFD_PACKET {
+        Some(7)
+    } else if bfd.my_discriminator == 0 {
+        Some(8)
+    } else if remote_needed && bfd.your_discriminator == 0 {
+        Some(12)
+    } else {
+        None
+    }
+}
+
+/// Reads the MEP-ID part that starts at `at`.
+fn read_mep_id(message: &[u8], at: usize) -> Result<MepId, Refused> {
+    let kind = be16(message, at);
+    if kind > 1 {
+        return Err(Refusal::MepId.at(at));
+    }
+    if usize::from(be16(message, at + 2)) != MEP_ID_VALUE {
+        return Err(Refusal::MepId.at(at + 2));
     }
     Ok(MepId {
         kind,
-        value: array(part, 4),
+        value: array(message, at + 4),
     })
 }
 
-fn read_fault(message: &[u8]) -> Result<Message, Refusal> {
-    if message.len() < FAULT_HEAD {
-        return Err(Refusal::Short);
+fn read_fault(message: &[u8]) -> Result<Read, Refused> {
+    reach(message, FAULT_HEAD)?;
+    if message[4] >> 4 != 1 {
+        return Err(Refusal::Fault.at(4));
     }
     let kind = match message[5] {
         1 => FaultKind::AlarmIndication,
         2 => FaultKind::LockReport,
-        _ => return Err(Refusal::Fault),
+        _ => return Err(Refusal::Fault.at(5)),
     };
     let refresh = message[7];
-    if message[4] >> 4 != 1 || !(1..=20).contains(&refresh) {
-        return Err(Refusal::Fault);
+    if !(1..=20).contains(&refresh) {
+        return Err(Refusal::Fault.at(7));
     }
-    let end = FAULT_HEAD + usize::from(message[8]);
-    if message.len() < end {
-        return Err(Refusal::Short);
-    }
-    let interface = read_tlvs(&message[FAULT_HEAD..end])?;
-    Ok(Message::Fault(Fault {
+    let used = FAULT_HEAD + usize::from(message[8]);
+    reach(message, used)?;
+    let interface = read_tlvs(&message[..used])?;
+    let fault = Fault {
         kind,
         link_down: message[6] & 2 != 0,
         clear: message[6] & 1 != 0,
         refresh,
         interface,
-    }))
+    };
+    Ok(Read {
+        message: Message::Fault(fault),
+        used,
+    })
 }
 
-/// Walks through the TLVs and gives the interface, if one is named.
-fn read_tlvs(mut rest: &[u8]) -> Result<Option<InterfaceId>, Refusal> {
+/// Walks through the TLVs of a fault message that ends with them, up to the
+/// first wrong one, and gives the interface, if one is named.
+fn read_tlvs(message: &[u8]) -> Result<Option<InterfaceId>, Refused> {
     let mut interface = None;
     let mut global_seen = false;
-    while !rest.is_empty() {
-        // One octet alone is too short to be a type and a length.
-        if rest.len() < 2 || rest.len() < 2 + usize::from(rest[1]) {
-            return Err(Refusal::Fault);
+    let mut at = FAULT_HEAD;
+    while at < message.len() {
+        let tlv = tlv_at(message, at)?;
+        let repeated = match tlv[0] {
+            1 => interface.is_some(),
+            2 => global_seen,
+            _ => false,
+        };
+        if repeated {
+            return Err(Refusal::Fault.at(at));
         }
-        let (tlv, behind) = rest.split_at(2 + usize::from(rest[1]));
-        match tlv[0] {
-            1 if interface.is_none() && tlv.len() == 2 + 8 => {
+        match (tlv[0], tlv.len() - 2) {
+            (1, 8) => {
                 interface = Some(InterfaceId {
                     node: be32(tlv, 2),
                     interface: be32(tlv, 6),
                 });
             }
-            2 if !global_seen && tlv.len() == 2 + 4 => global_seen = true,
-            // A wrong length, or the second of its type.
-            1 | 2 => return Err(Refusal::Fault),
+            (2, 4) => global_seen = true,
+            (1 | 2, _) => return Err(Refusal::Fault.at(at + 1)),
             _ => {}
         }
-        rest = behind;
+        at += tlv.len();
     }
     Ok(interface)
+}
+
+/// The TLV at `at`, type and length included. One octet alone is too short to
+/// be a type and a length.
+fn tlv_at(message: &[u8], at: usize) -> Result<&[u8], Refused> {
+    let length = message.get(at + 1).copied();
+    length
+        .and_then(|length| message.get(at..at + 2 + usize::from(length)))
+        .ok_or(Refusal::Fault.at(at))
 }

@@ -39,4 +39,28 @@ impl Refusal {
     pub fn number(self) -> u8 {
         self as u8
     }
+
+    /// The refusal of a message that goes wrong at this octet.
+    pub fn at(self, place: usize) -> Refused {
+        Refused {
+            refusal: self,
+            place: Some(place),
+        }
+    }
+}
+
+/// A refused call: why, and where in the message if it could not be read.
+#[derive(Clone, Copy, Debug, PartialEq, Eq)]
+pub struct Refused {
+    pub refusal: Refusal,
+    pub place: Option<usize>,
+}
+
+impl From<Refusal> for Refused {
+    fn from(refusal: Refusal) -> Refused {
+        Refused {
+            refusal,
+            place: None,
+        }
+    }
 }

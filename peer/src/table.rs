@@ -2,7 +2,7 @@
 
 use crate::capture::{Kind, Record};
 use crate::message;
-use crate::refusal::Refusal;
+use crate::refusal::{Refusal, Refused};
 use crate::session::{Report, Session, Written};
 use crate::settings::Settings;
 use crate::sound::{self, Scratch};
@@ -18,14 +18,14 @@ pub enum Answer {
     Accepted,
     Report(Report),
     Written(Written),
-    Refused(Refusal),
+    Refused(Refused),
 }
 
 impl Answer {
     /// The number of the answer.
     pub fn number(&self) -> u8 {
         match self {
-            Answer::Refused(refusal) => refusal.number(),
+            Answer::Refused(refused) => refused.refusal.number(),
             _ => 0,
         }
     }
@@ -75,7 +75,7 @@ impl Table {
     /// Does the call of one record. Refusal 26 comes before all others.
     pub fn perform(&mut self, record: &Record) -> Answer {
         if !sound::is_sound(&self.places, self.clock, &mut self.scratch) {
-            return Answer::Refused(Refusal::Table);
+            return Answer::Refused(Refusal::Table.into());
         }
         let (time, label) = (record.time, record.label);
         let answer = match record.kind {
@@ -92,20 +92,20 @@ impl Table {
         answer.unwrap_or_else(Answer::Refused)
     }
 
-    fn tick(&mut self, reading: u64) -> Result<Answer, Refusal> {
+    fn tick(&mut self, reading: u64) -> Result<Answer, Refused> {
         self.judge_reading(reading)?;
         self.accept(reading);
         Ok(Answer::Accepted)
     }
 
-    fn open(&mut self, reading: u64, label: u32, body: &[u8]) -> Result<Answer, Refusal> {
+    fn open(&mut self, reading: u64, label: u32, body: &[u8]) -> Result<Answer, Refused> {
         self.judge_reading(reading)?;
         let settings = Settings::read(label, body).ok_or(Refusal::Setting)?;
         let taken = self.sessions().any(|open| {
             open.settings.label == label || open.settings.discriminator == settings.discriminator
         });
         if taken {
-            return Err(Refusal::AlreadyOpen);
+            return Err(Refusal::AlreadyOpen.into());
         }
         let free = self.places.iter().position(Option::is_none);
         let place = free.ok_or(Refusal::TableFull)?;
@@ -114,50 +114,50 @@ impl Table {
         Ok(Answer::Accepted)
     }
 
-    fn close(&mut self, reading: u64, label: u32) -> Result<Answer, Refusal> {
+    fn close(&mut self, reading: u64, label: u32) -> Result<Answer, Refused> {
         let place = self.place_for(reading, label)?;
         self.accept(reading);
         self.places[place] = None;
         Ok(Answer::Accepted)
     }
 
-    fn lock(&mut self, reading: u64, label: u32) -> Result<Answer, Refusal> {
+    fn lock(&mut self, reading: u64, label: u32) -> Result<Answer, Refused> {
         let place = self.place_for(reading, label)?;
         self.accept(reading);
         self.session_at(place)?.lock();
         Ok(Answer::Accepted)
     }
 
-    fn unlock(&mut self, reading: u64, label: u32) -> Result<Answer, Refusal> {
+    fn unlock(&mut self, reading: u64, label: u32) -> Result<Answer, Refused> {
         let place = self.place_for(reading, label)?;
         self.accept(reading);
         self.session_at(place)?.unlock(reading);
         Ok(Answer::Accepted)
     }
 
-    fn receive(&mut self, reading: u64, label: u32, octets: &[u8]) -> Result<Answer, Refusal> {
+    fn receive(&mut self, reading: u64, label: u32, octets: &[u8]) -> Result<Answer, Refused> {
         let place = self.place_for(reading, label)?;
-        let message = message::read(octets)?;
+        let message = message::read(octets)?.message;
         if let Some(refusal) = self.session_at(place)?.refuses(&message, reading) {
-            return Err(refusal);
+            return Err(refusal.into());
         }
         self.accept(reading);
         self.session_at(place)?.take(&message, reading);
         Ok(Answer::Accepted)
     }
 
-    fn report(&self, label: u32) -> Result<Answer, Refusal> {
+    fn report(&self, label: u32) -> Result<Answer, Refused> {
         let session = self.session(label).ok_or(Refusal::NoSession)?;
         Ok(Answer::Report(session.report(self.clock)))
     }
 
-    fn write_cc(&mut self, label: u32) -> Result<Answer, Refusal> {
+    fn write_cc(&mut self, label: u32) -> Result<Answer, Refused> {
         let place = self.place_of(label)?;
         let now = self.clock;
         Ok(Answer::Written(self.session_at(place)?.write_cc(now)))
     }
 
-    fn write_cv(&self, label: u32) -> Result<Answer, Refusal> {
+    fn write_cv(&self, label: u32) -> Result<Answer, Refused> {
         let session = self.session(label).ok_or(Refusal::NoSession)?;
         Ok(Answer::Written(session.write_cv(self.clock)))
     }

@@ -1,6 +1,7 @@
 //! The program `watch`: answers to a capture, one line for each record.
 
 use crate::capture::{Next, Reader};
+use crate::refusal::Refused;
 use crate::session::Report;
 use crate::table::{Answer, Table};
 use std::io::{self, Read, Write};
@@ -30,7 +31,8 @@ fn print(output: &mut impl Write, number: u64, answer: &Answer) -> io::Result<()
     match answer {
         Answer::Report(report) => print_report(output, report)?,
         Answer::Written(written) => print_hex(output, written.octets())?,
-        Answer::Accepted | Answer::Refused(_) => {}
+        Answer::Refused(refused) => print_place(output, refused)?,
+        Answer::Accepted => {}
     }
     output.write_all(b"\n")
 }
@@ -47,6 +49,14 @@ fn print_report(output: &mut impl Write, report: &Report) -> io::Result<()> {
         u8::from(report.blocked),
         report.conditions
     )
+}
+
+/// Where a message that could not be read went wrong; nothing for others.
+fn print_place(output: &mut impl Write, refused: &Refused) -> io::Result<()> {
+    match refused.place {
+        Some(place) => write!(output, " {place}"),
+        None => Ok(()),
+    }
 }
 
 /// One space, then all octets in lower-case hexadecimal.

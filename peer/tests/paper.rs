@@ -143,8 +143,8 @@ fn i_cc_without_your_discriminator() {
         .report()
         .prints(&[
             "1 0",
-            "2 6",
-            "3 6",
+            "2 6 12",
+            "3 6 12",
             "4 0 1 0 0 0 0 0 0",
             "5 0",
             "6 0 2 0 0 0 0 0 0",

@@ -6,10 +6,12 @@ mod common;
 use common::*;
 use peer::capture::{open_body, Kind};
 
-/// The answer to a message received at 0 by the usual session.
+/// The number of the answer to a message received at 0 by the usual session;
+/// `tests/places.rs` asks for what stands behind it.
 fn answer(message: &[u8]) -> String {
     let text = Capture::new().open(0, 3).receive(0, message).text();
-    text.lines().nth(1).unwrap()[2..].to_string()
+    let line = text.lines().nth(1).unwrap();
+    line.split(' ').nth(1).unwrap().to_string()
 }
 
 fn changed(mut message: Vec<u8>, at: usize, value: u8) -> Vec<u8> {
@@ -125,7 +127,7 @@ fn a_refused_call_gives_no_timer_and_keeps_the_clock() {
         .receive(9_000_000, &[])
         .report()
         .tick(0)
-        .prints(&["1 0", "2 0", "3 3", "4 0 3 0 0 0 0 0 0", "5 0"]);
+        .prints(&["1 0", "2 0", "3 3 0", "4 0 3 0 0 0 0 0 0", "5 0"]);
 }
 
 #[test]
@@ -217,7 +219,7 @@ fn locking_and_unlocking() {
             "5 0 0 0 0 0 0 0 0",
             "6 0 10000022270003180000001100000005000f4240000f424000000000",
             "7 14",
-            "8 6",
+            "8 6 6",
             "9 0",
             "10 0 0 0 0 0 0 0 0",
             "11 0",

@@ -1,5 +1,6 @@
 //! The printed lines, made without the formatting machinery.
 
+use crate::refusal::Refused;
 use crate::session::Report;
 use crate::table::Answer;
 
@@ -23,11 +24,12 @@ impl Line {
     pub fn of(&mut self, number: u64, answer: &Answer) -> &[u8] {
         self.text.clear();
         self.put(number);
-        self.put_behind_space(answer.number());
+        self.put_small(answer.number());
         match answer {
             Answer::Report(report) => self.put_report(report),
             Answer::Written(written) => self.put_hex(written.octets()),
-            Answer::Accepted | Answer::Refused(_) => {}
+            Answer::Refused(refused) => self.put_place(refused),
+            Answer::Accepted => {}
         }
         self.text.push(b'\n');
         &self.text
@@ -47,13 +49,21 @@ impl Line {
         self.text.extend_from_slice(&digits[first..]);
     }
 
-    /// An answer or a number of a report: below 100.
-    fn put_behind_space(&mut self, number: u8) {
+    /// An answer or a number of a report, behind a space: below 100.
+    fn put_small(&mut self, number: u8) {
         self.text.push(b' ');
         if number >= 10 {
             self.text.push(b'0' + number / 10);
         }
         self.text.push(b'0' + number % 10);
+    }
+
+    /// Where a message that could not be read went wrong; nothing for others.
+    fn put_place(&mut self, refused: &Refused) {
+        if let Some(place) = refused.place {
+            self.text.push(b' ');
+            self.put(place as u64);
+        }
     }
 
     fn put_report(&mut self, report: &Report) {
@@ -66,7 +76,7 @@ impl Line {
             u8::from(report.blocked),
             report.conditions as u8,
         ] {
-            self.put_behind_space(number);
+            self.put_small(number);
         }
     }
 

@@ -4,7 +4,7 @@
 use super::index::Index;
 use crate::capture::{Kind, Record};
 use crate::message;
-use crate::refusal::Refusal;
+use crate::refusal::{Refusal, Refused};
 use crate::session::Session;
 use crate::settings::Settings;
 use crate::table::{Answer, LARGEST_READING, PLACES};
@@ -43,20 +43,20 @@ impl Table {
         answer.unwrap_or_else(Answer::Refused)
     }
 
-    fn tick(&mut self, reading: u64) -> Result<Answer, Refusal> {
+    fn tick(&mut self, reading: u64) -> Result<Answer, Refused> {
         self.judge_reading(reading)?;
         self.clock = reading;
         Ok(Answer::Accepted)
     }
 
-    fn open(&mut self, reading: u64, label: u32, body: &[u8]) -> Result<Answer, Refusal> {
+    fn open(&mut self, reading: u64, label: u32, body: &[u8]) -> Result<Answer, Refused> {
         self.judge_reading(reading)?;
         let settings = Settings::read(label, body).ok_or(Refusal::Setting)?;
         let mut open = self.places.iter().flatten();
         if self.index.find(label).is_some()
             || open.any(|session| session.settings.discriminator == settings.discriminator)
         {
-            return Err(Refusal::AlreadyOpen);
+            return Err(Refusal::AlreadyOpen.into());
         }
         let free = self.places.iter().position(Option::is_none);
         let place = free.ok_or(Refusal::TableFull)?;
@@ -66,7 +66,7 @@ impl Table {
         Ok(Answer::Accepted)
     }
 
-    fn close(&mut self, reading: u64, label: u32) -> Result<Answer, Refusal> {
+    fn close(&mut self, reading: u64, label: u32) -> Result<Answer, Refused> {
         self.judge_reading(reading)?;
         let place = self.index.find(label).ok_or(Refusal::NoSession)?;
         self.clock = reading;
@@ -75,12 +75,12 @@ impl Table {
         Ok(Answer::Accepted)
     }
 
-    fn receive(&mut self, reading: u64, label: u32, octets: &[u8]) -> Result<Answer, Refusal> {
+    fn receive(&mut self, reading: u64, label: u32, octets: &[u8]) -> Result<Answer, Refused> {
         self.judge_reading(reading)?;
         let session = self.session(label)?;
-        let message = message::read(octets)?;
+        let message = message::read(octets)?.message;
         if let Some(refusal) = session.refuses(&message, reading) {
-            return Err(refusal);
+            return Err(refusal.into());
         }
         session.timer(reading);
         session.take(&message, reading);
@@ -94,7 +94,7 @@ impl Table {
         reading: u64,
         label: u32,
         act: impl FnOnce(&mut Session),
-    ) -> Result<Answer, Refusal> {
+    ) -> Result<Answer, Refused> {
         self.judge_reading(reading)?;
         let session = self.session(label)?;
         session.timer(reading);
@@ -108,7 +108,7 @@ impl Table {
         &mut self,
         label: u32,
         say: impl FnOnce(&mut Session, u64) -> Answer,
-    ) -> Result<Answer, Refusal> {
+    ) -> Result<Answer, Refused> {
         let now = self.clock;
         let session = self.session(label)?;
         session.timer(now);
