@@ -1,4 +1,4 @@
--- What 26 asks of the four places where all but the first are empty.
+-- What 26 asks of the four places where all but the first are empty; and that an empty place holds nothing down.
 -- Assumes nothing.
 use Prim.Native.Nat.{ℕ}
 use mathlib.Core.Path.{_≡_, refl, _∙_}
@@ -7,7 +7,8 @@ use lib.Dec.{eqb}
 use Rattle.rules.proofs.Bools.{split, no-way}
 use Rattle.conditions.specs.declared.Condition.{Condition}
 use Rattle.conditions.specs.declared.Conditions.{Conditions}
-use Rattle.conditions.specs.Standing.{filled}
+use Rattle.rules.specs.declared.Settings.{Settings}
+use Rattle.conditions.specs.Standing.{filled, placeStands, followedAt, anyFollowed}
 use Rattle.conditions.specs.Soundness.{placeSound, placesSound, clash, noClash, conditionsSound}
 
 -- nothing clashes with an empty place
@@ -47,3 +48,18 @@ pub none-filled : (cs : Conditions) (clock : ℕ)
     → conditionsSound cs clock ≡ true
 none-filled cs clock e =
     split (eqb (cs .first .key .kind) 0) (λ f. first-alone cs clock (rw f at e) ∙ empty-sound (cs .first) clock f) (λ f. no-way e (rw f))
+
+-- where no place is filled, none is followed
+empty-unfollowed : (g : Settings) (c : Condition) (now : ℕ) → eqb (c .key .kind) 0 ≡ true → followedAt g c now ≡ false
+unfolding followedAt placeStands
+empty-unfollowed g c now e = rw e
+
+pub none-followed : (g : Settings) (cs : Conditions) (now : ℕ)
+    → (eqb (cs .first .key .kind) 0 && eqb (cs .second .key .kind) 0 && eqb (cs .third .key .kind) 0 && eqb (cs .fourth .key .kind) 0) ≡ true
+    → anyFollowed g cs now ≡ false
+unfolding anyFollowed
+none-followed g cs now e =
+    split (eqb (cs .first .key .kind) 0)
+    (λ f. let p = three-apart (eqb (cs .second .key .kind) 0) (eqb (cs .third .key .kind) 0) (eqb (cs .fourth .key .kind) 0) (rw f at e) in
+    rw (empty-unfollowed g (cs .first) now f, empty-unfollowed g (cs .second) now (p .0), empty-unfollowed g (cs .third) now (p .1 .0), empty-unfollowed g (cs .fourth) now (p .1 .1)))
+    (λ f. no-way e (rw f))

@@ -6,6 +6,7 @@ mod taking;
 
 use rules::Key;
 pub use sound::conditions_sound;
+pub use sound::four_empty;
 pub use standing::any_followed;
 pub use standing::count_at;
 pub use taking::no_conditions;

@@ -145,7 +145,7 @@ fn three_empty(second: u8, third: u8, fourth: u8) -> bool
     fourth == 0
 }
 
-fn four_empty(first: u8, second: u8, third: u8, fourth: u8) -> bool
+pub fn four_empty(first: u8, second: u8, third: u8, fourth: u8) -> bool
     ensures { λ r. ⌜ r ≡ (eqb first 0 && eqb second 0 && eqb third 0 && eqb fourth 0) ⌝ }
 {
     if first != 0 {

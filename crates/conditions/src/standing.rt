@@ -2,10 +2,8 @@
 use crate::Condition;
 use crate::Conditions;
 use octets::bit;
-use octets::both;
 use rules::Settings;
 ghost use mathlib.Core.Path.{_≡_};
-ghost use mathlib.Core.Bool.{_||_};
 ghost use Rattle.conditions.specs.Standing.{fresh, placeStands, countAt, followedAt, anyFollowed};
 
 pub fn is_fresh(c: Condition, now: u64) -> bool
@@ -38,27 +36,16 @@ pub fn count_at(cs: Conditions, now: u64) -> u8
     a + b + c + d
 }
 
-fn any(a: bool, b: bool, c: bool, d: bool) -> bool
-    ensures { λ r. ⌜ r ≡ (a || b || c || d) ⌝ }
-{
-    if a {
-        return true;
-    }
-    if b {
-        return true;
-    }
-    if c {
-        return true;
-    }
-    d
-}
-
+// The marks are asked before the dates: every heard CC comes by here, and most sessions follow
+// nothing that stands.
 fn followed_at(s: Settings, c: Condition, now: u64) -> bool
     ensures { λ r. ⌜ r ≡ followedAt s c now ⌝ }
 {
-    let standing = does_stand(c, now);
     let linkdown = c.linkdown == 1;
-    both(standing, rules::is_followed(s, c.key.kind, linkdown))
+    if rules::is_followed(s, c.key.kind, linkdown) {
+        return does_stand(c, now);
+    }
+    false
 }
 
 // Whether a condition that the session follows stands.
@@ -69,9 +56,14 @@ pub fn any_followed(s: Settings, cs: Conditions, now: u64) -> bool
     let second = cs.second;
     let third = cs.third;
     let fourth = cs.fourth;
-    let a = followed_at(s, first, now);
-    let b = followed_at(s, second, now);
-    let c = followed_at(s, third, now);
-    let d = followed_at(s, fourth, now);
-    any(a, b, c, d)
+    if followed_at(s, first, now) {
+        return true;
+    }
+    if followed_at(s, second, now) {
+        return true;
+    }
+    if followed_at(s, third, now) {
+        return true;
+    }
+    followed_at(s, fourth, now)
 }

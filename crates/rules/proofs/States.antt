@@ -8,7 +8,7 @@ use Rattle.rules.specs.declared.State.{State}
 use Rattle.rules.specs.declared.State.the-variants.{AdminDown, Down, NeighborDown, Init, Up}
 use Rattle.rules.specs.declared.Input.{Input}
 use Rattle.rules.specs.declared.Input.the-variants.{Timer, LinkDown, LockReport, Crossed}
-use Rattle.rules.specs.States.{moved, reported, isLocked, isComingUp, stored, stateOf}
+use Rattle.rules.specs.States.{moved, received, heardInput, reported, isLocked, downByNeighbor, isComingUp, stored, stateOf}
 
 pub state-stored : (s : State) → stateOf (stored s) ≡ s
 state-stored AdminDown = refl
@@ -36,6 +36,7 @@ pub data Lowering : Input → Type 0 where
   byTimer : Lowering Timer
   byLinkDown : Lowering LinkDown
   byLockReport : Lowering LockReport
+  byCrossed : Lowering Crossed
 
 pub lowered : (s : State) {i : Input} → Lowering i → isComingUp (moved s i) ≡ false
 lowered AdminDown byTimer = refl
@@ -53,14 +54,29 @@ lowered Down byLockReport = refl
 lowered NeighborDown byLockReport = refl
 lowered Init byLockReport = refl
 lowered Up byLockReport = refl
+lowered AdminDown byCrossed = refl
+lowered Down byCrossed = refl
+lowered NeighborDown byCrossed = refl
+lowered Init byCrossed = refl
+lowered Up byCrossed = refl
 
--- a crossed message brings no session up
-pub crossed-up : (s : State) → isComingUp (moved s Crossed) ≡ true → isComingUp s ≡ true
-crossed-up AdminDown e = e
-crossed-up Down e = e
-crossed-up NeighborDown e = e
-crossed-up Init e = refl
-crossed-up Up e = refl
+-- a held session takes every received state for TIMER, one that is not held takes each for what it is
+pub held-timer : (state : ℕ) → heardInput true state ≡ Timer
+held-timer state = refl
+
+pub unheld-received : (state : ℕ) → heardInput false state ≡ received state
+unheld-received state = refl
+
+-- so no received state brings a held session up, and none gives or ends DOWN by a received state
+pub held-lowered : (s : State) (state : ℕ) → isComingUp (moved s (heardInput true state)) ≡ false
+held-lowered s state = lowered s byTimer
+
+pub held-neighbor : (s : State) (state : ℕ) → downByNeighbor (moved s (heardInput true state)) ≡ downByNeighbor s
+held-neighbor AdminDown state = refl
+held-neighbor Down state = refl
+held-neighbor NeighborDown state = refl
+held-neighbor Init state = refl
+held-neighbor Up state = refl
 
 -- no input locks or unlocks
 pub locked-still : (s : State) → isLocked (moved s Timer) ≡ isLocked s

@@ -1,5 +1,5 @@
--- Figure 7 of RFC 6428 as it is drawn: three boxes, eight arrows, and the inputs that stand at each. It says again what the moving table
--- of `States` says, from the drawing and in the paper's states alone; that the two agree is proved.
+-- Figure 7 of RFC 6428 as it is drawn: three boxes, eight arrows, and the inputs that stand at each; and the one arrow that the rules add.
+-- It says again what the moving table of `States` says, from the drawing and in the paper's states alone; that the two agree is proved.
 -- Assumes nothing.
 use Prim.Native.Nat.{ℕ}
 use mathlib.Core.Bool.{Bool, cond, _&&_}
@@ -28,6 +28,10 @@ arrows =
     ∷ Leads 3 (received 2 ∷ received 3 ∷ []) 3
     ∷ []
 
+-- not in the drawing: a crossed message takes INIT to DOWN too
+abbrev pub crossedInit : Arrow
+crossedInit = Leads 2 (Crossed ∷ []) 1
+
 -- inputs told apart by a number for each
 abbrev pub inputNumber : Input → ℕ
 inputNumber GotAdminDown = 0
@@ -48,7 +52,7 @@ ledBy state input [] = state
 ledBy state input (Leads box inputs to ∷ rest) = cond (eqb box state && isAmong input inputs) to (ledBy state input rest)
 
 abbrev pub drawn : ℕ → Input → ℕ
-drawn state input = ledBy state input arrows
+drawn state input = ledBy state input (crossedInit ∷ arrows)
 
 -- diagnostic 3 is for DOWN by a received state: afterwards the session is DOWN, and either it was DOWN before and by a received state, or
 -- the input that led it there is a received state

@@ -38,7 +38,7 @@ fromInit GotAdminDown = NeighborDown
 fromInit Timer = Down
 fromInit LinkDown = Down
 fromInit LockReport = Down
-fromInit Crossed = Init
+fromInit Crossed = Down
 
 abbrev pub fromUp : Input → State
 fromUp GotDown = NeighborDown
@@ -61,6 +61,10 @@ moved Up input = fromUp input
 -- the state of a heard CC, as an input
 abbrev pub received : ℕ → Input
 received state = cond (eqb state 0) GotAdminDown (cond (eqb state 1) GotDown (cond (eqb state 2) GotInit GotUp))
+
+-- the state of a heard CC as the session takes it: where a crossing or a followed condition holds the session down, TIMER in its place
+abbrev pub heardInput : Bool → ℕ → Input
+heardInput held state = cond held Timer (received state)
 
 -- the paper's number of a state, in reports and in messages
 abbrev pub reported : State → ℕ

@@ -2,7 +2,7 @@
 use crate::Input;
 use crate::State;
 ghost use mathlib.Core.Path.{_≡_};
-ghost use Rattle.rules.specs.States.{fromDown, fromNeighborDown, fromInit, fromUp, moved, received, reported, isLocked, downByNeighbor, isComingUp, stored, stateOf};
+ghost use Rattle.rules.specs.States.{fromDown, fromNeighborDown, fromInit, fromUp, moved, received, heardInput, reported, isLocked, downByNeighbor, isComingUp, stored, stateOf};
 
 fn from_down(input: Input) -> State
     ensures { λ r. ⌜ r ≡ fromDown input ⌝ }
@@ -45,7 +45,7 @@ fn from_init(input: Input) -> State
         Input::Timer => State::Down,
         Input::LinkDown => State::Down,
         Input::LockReport => State::Down,
-        Input::Crossed => State::Init,
+        Input::Crossed => State::Down, // not in the figure
     }
 }
 
@@ -78,7 +78,7 @@ pub fn move_by(from: State, input: Input) -> State
 }
 
 // The state of a heard CC, 0 to 3, as an input.
-pub fn received_input(state: u8) -> Input
+fn received_input(state: u8) -> Input
     ensures { λ r. ⌜ r ≡ received state ⌝ }
 {
     if state == 0 {
@@ -91,6 +91,16 @@ pub fn received_input(state: u8) -> Input
         return Input::GotInit;
     }
     Input::GotUp
+}
+
+// The state of a heard CC as the session takes it: TIMER while it is held down.
+pub fn heard_input(held: bool, state: u8) -> Input
+    ensures { λ r. ⌜ r ≡ heardInput held state ⌝ }
+{
+    if held {
+        return Input::Timer;
+    }
+    received_input(state)
 }
 
 // The number of a state in reports and messages.

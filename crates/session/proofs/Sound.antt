@@ -14,13 +14,13 @@ use Rattle.rules.specs.declared.Settings.{Settings}
 use Rattle.rules.specs.declared.State.{State}
 use Rattle.rules.specs.declared.State.the-variants.{Down}
 use Rattle.rules.specs.declared.Input.the-variants.{Crossed, LinkDown, LockReport}
-use Rattle.rules.specs.States.{moved, received, isComingUp, stored, stateOf}
+use Rattle.rules.specs.States.{moved, heardInput, isComingUp, stored, stateOf}
 use Rattle.rules.specs.Settings.{settingsFit}
 use Rattle.rules.specs.Conditions.{faultInput, actsOn, faultState}
 use Rattle.rules.proofs.Bools.{split, or-cases, or-left, or-right, no-way, forced, true-false}
 use Rattle.rules.proofs.Failing.{at-most, both-fail}
 use Rattle.rules.proofs.Unfit.{settings-unfit}
-use Rattle.rules.proofs.States.{state-stored, stored-fits, lowered, byLinkDown, byLockReport, crossed-up}
+use Rattle.rules.proofs.States.{state-stored, stored-fits, lowered, byLinkDown, byLockReport, byCrossed}
 use Rattle.conditions.specs.declared.Conditions.{Conditions}
 use Rattle.conditions.specs.Soundness.{placeSound, placesSound, clash, noClash, conditionsSound}
 use Rattle.conditions.specs.Taking.{takenIn}
@@ -28,7 +28,7 @@ use Rattle.conditions.proofs.Fading.{sound-later}
 use Rattle.conditions.proofs.Taken.{taken-sound}
 use Rattle.conditions.proofs.Unsound.{conditions-unsound}
 use Rattle.session.specs.declared.Session.{Session}
-use Rattle.session.specs.Queries.{lockedIn, stateAt}
+use Rattle.session.specs.Queries.{lockedIn, heldAt, stateAt}
 use Rattle.session.specs.Steps.{newSession, settled, lockedBy, unlockedAt, heardCc, heardCv, crossedAt, faultTaken, replySettled}
 use Rattle.session.specs.Soundness.{sessionSound}
 use Rattle.session.specs.Unsound.{UnsoundSession, settingsUnfit, stateAbove, noMultiplier, diagnosticAbove, owedMark, crossingMark, timedAbove, crossedAbove, conditionsUnsound, noRemote}
@@ -199,7 +199,7 @@ module _ (s : Session) (clock reading : ℕ) (h : clock ≤ reading) (sound : se
       says-sound (heardCc s reading p) reading
       (record {
         settings = x .settings;
-        state = stored-fits (moved (stateAt s reading) (received (p .state)));
+        state = stored-fits (moved (stateAt s reading) (heardInput (heldAt s reading) (p .state)));
         multiplier = m;
         diagnostic = d;
         owed = bit-most (p .poll || eqb (s .peer .owed) 1);
@@ -243,7 +243,7 @@ module _ (s : Session) (clock reading : ℕ) (h : clock ≤ reading) (sound : se
         timed = x .timed;
         crossed = le-leb reading reading (omega arith);
         conditions = x .conditions;
-        remote = remote-kept (moved (stateAt s reading) Crossed) (λ e. coming-up-before s reading (crossed-up (stateAt s reading) e));
+        remote = remote-kept (moved (stateAt s reading) Crossed) (λ e. no-way e (lowered (stateAt s reading) byCrossed));
       })
 
   -- LDI and LKR bring no session up

@@ -1,7 +1,7 @@
 -- What a session's record shows at a clock.
 -- Assumes nothing.
 use Prim.Native.Nat.{ℕ}
-use mathlib.Core.Bool.{Bool, false, cond, not, _&&_}
+use mathlib.Core.Bool.{Bool, false, cond, not, _&&_, _||_}
 use mathlib.Core.List.{List}
 use lib.Dec.{eqb}
 use Rattle.bfd.specs.declared.Packet.{Packet}
@@ -26,6 +26,10 @@ lossAt s now = not (lockedIn s) && past (s .timed) (detectionTime (s .settings .
 -- crossing: a crossed message less than 3,500,000 before now
 unfoldable pub crossingAt : Session → ℕ → Bool
 crossingAt s now = eqb (s .crossing) 1 && within (s .crossed) crossingTime now
+
+-- held down: a crossing stands, or a condition that the session follows
+unfoldable pub heldAt : Session → ℕ → Bool
+heldAt s now = crossingAt s now || anyFollowed (s .settings) (s .conditions) now
 
 -- the state after TIMER, which a session with a loss has been given at the latest now
 unfoldable pub stateAt : Session → ℕ → State

@@ -9,11 +9,11 @@ use Rattle.fault.specs.declared.Fault.{Fault}
 use Rattle.rules.specs.declared.Settings.{Settings}
 use Rattle.rules.specs.declared.State.the-variants.{AdminDown, Down}
 use Rattle.rules.specs.declared.Input.the-variants.{Crossed}
-use Rattle.rules.specs.States.{moved, received, stored}
+use Rattle.rules.specs.States.{moved, heardInput, stored}
 use Rattle.rules.specs.Conditions.{actsOn, faultState}
 use Rattle.conditions.specs.Taking.{noConditions, takenIn}
 use Rattle.session.specs.declared.Session.{Session}
-use Rattle.session.specs.Queries.{lockedIn, stateAt}
+use Rattle.session.specs.Queries.{lockedIn, heldAt, stateAt}
 
 -- a new session is DOWN, timed from its opening, with multiplier 3
 unfoldable pub newSession : Settings → ℕ → Session
@@ -72,7 +72,8 @@ unlockedAt s reading =
       crossing = s .crossing;
     }
 
--- a heard CC restarts the detection time, gives multiplier, remote discriminator and diagnostic, a reply owed if P is set, and its state as input
+-- a heard CC restarts the detection time, gives multiplier, remote discriminator and diagnostic, a reply owed if P is set, and its state as
+-- input, or TIMER in its place where the session is held down at the reading
 unfoldable pub heardCc : Session → ℕ → Packet → Session
 heardCc s reading p =
     record {
@@ -86,7 +87,7 @@ heardCc s reading p =
         diagnostic = p .diagnostic;
         owed = bitOf (p .poll || eqb (s .peer .owed) 1);
       };
-      state = stored (moved (stateAt s reading) (received (p .state)));
+      state = stored (moved (stateAt s reading) (heardInput (heldAt s reading) (p .state)));
       crossing = s .crossing;
     }
 
@@ -103,7 +104,7 @@ heardCv s reading =
       crossing = s .crossing;
     }
 
--- a crossed message: UP becomes DOWN, and the crossing is dated; the detection time goes on
+-- a crossed message: INIT and UP become DOWN, and the crossing is dated; the detection time goes on
 unfoldable pub crossedAt : Session → ℕ → Session
 crossedAt s reading =
     record {

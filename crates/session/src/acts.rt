@@ -1,6 +1,7 @@
 // A received message acts on a record by a small result: what it can change, and its answer.
 use crate::Peer;
 use crate::Session;
+use crate::queries::held_at;
 use crate::queries::is_locked;
 use crate::queries::state_at;
 use crate::steps::fault_state;
@@ -88,11 +89,12 @@ pub fn with_live(s: Session, a: Acted) -> Session
     put_live(s, live)
 }
 
-// What a heard CC leaves.
+// What a heard CC leaves. Whether the session is held down is asked of the record as it was, at the message's reading.
 fn cc_live(s: Session, reading: u64, p: Packet) -> Live
     ensures { λ r. ⌜ r ≡ liveOf (heardCc s reading p) ⌝ }
 {
-    let to = rules::move_by(state_at(s, reading), rules::received_input(p.state));
+    let held = held_at(s, reading);
+    let to = rules::move_by(state_at(s, reading), rules::heard_input(held, p.state));
     let before = s.peer.owed == 1;
     let peer = Peer {
         remote: p.my,

@@ -11,7 +11,7 @@ ghost use mathlib.Core.Path.{_≡_};
 ghost use mathlib.Core.Bool.{cond, not};
 ghost use Rattle.rules.specs.States.{moved};
 ghost use Rattle.rules.specs.declared.Input.the-variants.{Timer};
-ghost use Rattle.session.specs.Queries.{lockedIn, lossAt, crossingAt, stateAt, reportAt, diagnosticAt, packetAt, ccOctetsAt, cvOctetsAt};
+ghost use Rattle.session.specs.Queries.{lockedIn, lossAt, crossingAt, heldAt, stateAt, reportAt, diagnosticAt, packetAt, ccOctetsAt, cvOctetsAt};
 
 pub fn is_locked(s: Session) -> bool
     ensures { λ r. ⌜ r ≡ lockedIn s ⌝ }
@@ -34,6 +34,27 @@ pub fn crossing_at(s: Session, now: u64) -> bool
 {
     let marked = s.crossing == 1;
     both(marked, rules::is_within(s.crossed, 3_500_000, now))
+}
+
+// Held down: a crossing stands, or a condition that the session follows. Every heard CC asks, and
+// most sessions have no condition: that is asked first.
+pub(crate) fn held_at(s: Session, now: u64) -> bool
+    ensures { λ r. ⌜ r ≡ heldAt s now ⌝ }
+{
+    if crossing_at(s, now) {
+        return true;
+    }
+    let settings = s.settings;
+    let places = s.conditions;
+    if conditions::four_empty(
+        places.first.key.kind,
+        places.second.key.kind,
+        places.third.key.kind,
+        places.fourth.key.kind,
+    ) {
+        return false;
+    }
+    conditions::any_followed(settings, places, now)
 }
 
 fn after_timer(loss: bool, from: State) -> State
