@@ -24,7 +24,7 @@ use Rattle.rules.specs.declared.Input.the-variants.{GotAdminDown, GotDown, GotI
 use Rattle.rules.specs.declared.Received.{Received}
 use Rattle.rules.specs.declared.Received.the-variants.{CrossedMessage, HeardCc, HeardCv, FaultMessage}
 use Rattle.rules.specs.Times.{past, within, detectionTime, crossingTime}
-use Rattle.rules.specs.States.{moved, received, isLocked, stored, stateOf, downByNeighbor}
+use Rattle.rules.specs.States.{moved, heardInput, isLocked, stored, stateOf, downByNeighbor}
 use Rattle.rules.specs.Settings.{settingsFit}
 use Rattle.rules.specs.Received.{receivedAs, foreign}
 use Rattle.rules.specs.Conditions.{actsOn, faultState, faultInput}
@@ -35,13 +35,13 @@ use Rattle.rules.proofs.States.{state-stored}
 use Rattle.conditions.specs.Standing.{countAt, anyFollowed}
 use Rattle.conditions.specs.Taking.{faultAnswer, takenIn}
 use Rattle.session.specs.declared.Session.{Session}
-use Rattle.session.specs.Queries.{lockedIn, lossAt, crossingAt, reportAt, diagnosticAt, packetAt, ccOctetsAt, cvOctetsAt, stateAt as recordStateAt}
+use Rattle.session.specs.Queries.{lockedIn, lossAt, crossingAt, heldAt, reportAt, diagnosticAt, packetAt, ccOctetsAt, cvOctetsAt, stateAt as recordStateAt}
 use Rattle.session.specs.Steps as Steps
 use Rattle.session.specs.Reception.{receivedAnswer, receivedBy}
 use Rattle.session.specs.Soundness.{sessionSound}
 use Rattle.session.proofs.Sound.{sound-says, opened-sound, locked-sound, unlocked-sound, heard-cc-sound, heard-cv-sound, crossed-sound, fault-sound, written-sound, kept-sound}
 use Rattle.meaning.specs.Stories.{Story, opened, lock, unlock, got, wroteCc, settingsOf, wasTo, isCrossed, isHeard}
-use Rattle.meaning.specs.Standing.{locked, crossing, timedFrom, multiplierOf, multiplierBy, loss, state, stateBy, stateAt, remoteDiagnostic, diagnosticBy, remoteOf, remoteBy, owed, owedBy, conditions, followed, report, diagnostic, packet, ccWritten, cvWritten}
+use Rattle.meaning.specs.Standing.{locked, crossing, timedFrom, multiplierOf, multiplierBy, loss, state, stateBy, stateAt, remoteDiagnostic, diagnosticBy, remoteOf, remoteBy, owed, owedBy, conditions, followed, held, report, diagnostic, packet, ccWritten, cvWritten}
 use Rattle.meaning.specs.Answers.{receivedNumber}
 use Rattle.meaning.proofs.Places.{Kept, kept-opened, kept-later, kept-lock, kept-unlock, kept-wrote, kept-crossed, kept-cc, kept-cv, kept-fault, kept-count, kept-followed, kept-crowded}
 
@@ -81,11 +81,11 @@ moved-locked Up LinkDown = refl
 moved-locked Up LockReport = refl
 moved-locked Up Crossed = refl
 
-by-locked : (g : Settings) (x : Received) (s : State) → isLocked (stateBy g x s) ≡ isLocked s
-by-locked g CrossedMessage s = moved-locked s Crossed
-by-locked g (HeardCc p) s = moved-locked s (received (p .state))
-by-locked g HeardCv s = refl
-by-locked g (FaultMessage f) s = split (actsOn g f) (λ e. rw e (moved-locked s (faultInput (f .kind)))) (λ e. rw e)
+by-locked : (hold : Bool) (g : Settings) (x : Received) (s : State) → isLocked (stateBy hold g x s) ≡ isLocked s
+by-locked hold g CrossedMessage s = moved-locked s Crossed
+by-locked hold g (HeardCc p) s = moved-locked s (heardInput hold (p .state))
+by-locked hold g HeardCv s = refl
+by-locked hold g (FaultMessage f) s = split (actsOn g f) (λ e. rw e (moved-locked s (faultInput (f .kind)))) (λ e. rw e)
 
 timer-locked : (b : Bool) (s : State) → isLocked (cond b (moved s Timer) s) ≡ isLocked s
 timer-locked true s = moved-locked s Timer
@@ -99,7 +99,7 @@ state-locked (lock s t) = refl
 state-locked (unlock s t) =
     split (locked s) (λ e. rw e)
     (λ e. rw e (timer-locked (loss t s) (state s) ∙ state-locked s ∙ e))
-state-locked (got s m t) = by-locked (settingsOf s) (wasTo s m) _ ∙ timer-locked (loss t s) (state s) ∙ state-locked s
+state-locked (got s m t) = by-locked _ (settingsOf s) (wasTo s m) _ ∙ timer-locked (loss t s) (state s) ∙ state-locked s
 state-locked (wroteCc s) = state-locked s
 
 or-false : (b : Bool) → b || false ≡ b
@@ -140,6 +140,10 @@ module _ {now : ℕ} {r : Session} {s : Story} (f : Fits now r s) where
 
   same-followed : (t : ℕ) → now ≤ t → anyFollowed (r .settings) (r .conditions) t ≡ followed t s
   same-followed t h = ap (λ (g : Settings). anyFollowed g (r .conditions) t) (f .settings) ∙ kept-followed t h (f .places)
+
+  same-held : (t : ℕ) → now ≤ t → heldAt r t ≡ held t s
+  unfolding heldAt held
+  same-held t h = λ i. f .crossing t h i || same-followed t h i
 
   same-diagnostic : (t : ℕ) → now ≤ t → diagnosticAt r t ≡ diagnostic t s
   unfolding diagnosticAt diagnostic
@@ -276,9 +280,9 @@ told-in-range (FaultManagement x) g f e k =
 
 -- a heard CC, a heard CV, a crossed message and a fault message
 module _ {now : ℕ} (m : Message) (u : ℕ) {r : Session} {s : Story} (h : now ≤ u) (f : Fits now r s) where
-  after-state : (x : Received) (to : State) → wasTo s m ≡ x → to ≡ stateBy (settingsOf s) x (stateAt u s) → stateOf (stored to) ≡ state (got s m u)
+  after-state : (x : Received) (to : State) → wasTo s m ≡ x → to ≡ stateBy (held u s) (settingsOf s) x (stateAt u s) → stateOf (stored to) ≡ state (got s m u)
   unfolding state stateAt
-  after-state x to e k = state-stored to ∙ k ∙ ap (λ (y : Received). stateBy (settingsOf s) y (stateAt u s)) (sym e)
+  after-state x to e k = state-stored to ∙ k ∙ ap (λ (y : Received). stateBy (held u s) (settingsOf s) y (stateAt u s)) (sym e)
 
   fits-heard-cc : (p : Packet) → wasTo s m ≡ HeardCc p → (1 ≤ p .multiplier) × (p .diagnostic ≤ 31) × (p .my ≡ 0 → ⊥) → Fits u (Steps.heardCc r u p) (got s m u)
   unfolding Steps.heardCc settingsOf timedFrom multiplierOf remoteDiagnostic remoteOf owed crossing crossingAt
@@ -290,7 +294,9 @@ module _ {now : ℕ} (m : Message) (u : ℕ) {r : Session} {s : Story} (h : now 
         diagnostic = rw e;
         remote = rw e;
         reply = rw e (bit-back (p .poll || eqb (r .peer .owed) 1) _ refl ∙ ap (λ (b : Bool). p .poll || b) (f .reply));
-        state = after-state (HeardCc p) (moved (recordStateAt r u) (received (p .state))) e (ap (λ (x : State). moved x (received (p .state))) (same-state f u));
+        state =
+            after-state (HeardCc p) (moved (recordStateAt r u) (heardInput (heldAt r u) (p .state))) e
+            (λ i. moved (same-state f u i) (heardInput (same-held f u h i) (p .state)));
         crossing = λ t k. rw e (f .crossing t (omega arith));
         places = kept-cc m u p e (kept-later now u h (f .places));
         sound = heard-cc-sound r now u h (f .sound) p (g .0) (g .1) (g .2);

@@ -31,7 +31,7 @@ use Rattle.rules.specs.Lists.{any, only}
 use Rattle.rules.specs.Calls.{Act, Close, Lock, Unlock, Receive, ReportOn, WriteCc, WriteCv, Call, Tick, Open, On, numberOnly, reporting, writes}
 use Rattle.rules.proofs.Bools.{split}
 use Rattle.meaning.specs.Stories.{Story, opened, lock, unlock, got, wroteCc, settingsOf, wasTo, isCrossed, isHeard}
-use Rattle.meaning.specs.Standing.{locked, crossing, timedFrom, multiplierOf, multiplierBy, loss, state, stateBy, stateAt, remoteDiagnostic, diagnosticBy, remoteOf, remoteBy, owed, owedBy, stands, standsBy, followedLast, followedBy, keysOf, keysBy, conditions, followed, report, diagnostic, packet, ccWritten, cvWritten}
+use Rattle.meaning.specs.Standing.{locked, crossing, timedFrom, multiplierOf, multiplierBy, loss, state, stateBy, stateAt, remoteDiagnostic, diagnosticBy, remoteOf, remoteBy, owed, owedBy, stands, standsBy, followedLast, followedBy, keysOf, keysBy, conditions, followed, held, report, diagnostic, packet, ccWritten, cvWritten}
 use Rattle.meaning.specs.Histories.{actReading, reading, more, actTold, told}
 use Rattle.meaning.specs.Answers.{isOpen, hasDiscriminator, rival, full, openNumber, receivedNumber, receiveNumber, reportSaid, writeSaid, actSaid, saysOf}
 use Rattle.meaning.proofs.Fits.{state-locked}
@@ -101,6 +101,10 @@ module _ {from : ℕ} {r s : Story} (A : Indistinct from r s) where
   same-followed : (now : ℕ) → followed now r ≡ followed now s
   unfolding followed
   same-followed now = λ i. any (λ key. A .standing now key i && A .following key i) (A .keys i)
+
+  same-held : (now : ℕ) → held now r ≡ held now s
+  unfolding held
+  same-held now = λ i. A .crossings now i || same-followed now i
 
   module _ (now : ℕ) (h : from ≤ now) where
     same-report : report now r ≡ report now s
@@ -260,7 +264,7 @@ module _ {from : ℕ} (u : ℕ) {r s : Story} (h : from ≤ u) (A : Indistinct f
           following = λ key i. followedBy (A .settings i) key (same-was i) (A .following key i);
           crossings = λ now i. isCrossed (same-was i) && within u crossingTime now || A .crossings now i;
           states = λ now b.
-              same-at (got r m u) (got s m u) (A .settings) (A .lock-mark) t k (λ i. stateBy (A .settings i) (same-was i) (A .states u h i)) now;
+              same-at (got r m u) (got s m u) (A .settings) (A .lock-mark) t k (λ i. stateBy (same-held A u i) (A .settings i) (same-was i) (A .states u h i)) now;
         }
 
 alike-wrote : {from : ℕ} {r s : Story} → Indistinct from r s → Indistinct from (wroteCc r) (wroteCc s)

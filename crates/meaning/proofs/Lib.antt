@@ -17,4 +17,6 @@ pub mod Demand
 pub mod OnlyTicks
 pub mod TakenPlaces
 pub mod Further
+pub mod HoldDown
+pub mod HeldAnswers
 pub mod Readings

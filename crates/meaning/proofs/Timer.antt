@@ -26,7 +26,7 @@ use Rattle.rules.proofs.Bools.{split, both-true}
 use Rattle.rules.proofs.Ages.{not-late, past-later}
 use Rattle.rules.proofs.States.{timer-twice}
 use Rattle.meaning.specs.Stories.{Story, opened, lock, unlock, got, wroteCc, settingsOf, wasTo, isHeard}
-use Rattle.meaning.specs.Standing.{locked, timedFrom, multiplierOf, multiplierBy, loss, state, stateBy, stateAt}
+use Rattle.meaning.specs.Standing.{locked, timedFrom, multiplierOf, multiplierBy, loss, held, state, stateBy, stateAt}
 use Rattle.meaning.specs.Histories.{History, start, after, actReading, reading, actTold, told, clockOf, story, labels}
 use Rattle.meaning.specs.Answers.{isOpen, rival, full, openNumber, receiveNumber, actSaid, saysOf, says}
 use Rattle.meaning.specs.Timer.{timed, acted, afterCall, eagerState, shown}
@@ -109,19 +109,19 @@ heard-loss : (s : Story) (m : Message) (u : ℕ) → isHeard (wasTo s m) ≡ tru
 unfolding loss timedFrom
 heard-loss s m u e = and-no (not (locked (got s m u))) (rw e (past-none u (detectionTime (settingsOf (got s m u) .period) (multiplierOf (got s m u)))))
 
-got-state : (s : Story) (m : Message) (u : ℕ) (x : Received) → wasTo s m ≡ x → stateAt u (got s m u) ≡ stateBy (settingsOf s) x (timed u s (state s))
+got-state : (s : Story) (m : Message) (u : ℕ) (x : Received) → wasTo s m ≡ x → stateAt u (got s m u) ≡ stateBy (held u s) (settingsOf s) x (timed u s (state s))
 unfolding stateAt state
 got-state s m u CrossedMessage e =
-    ap (λ (b : Bool). cond b (moved (stateBy (settingsOf s) (wasTo s m) (timed u s (state s))) Timer) (stateBy (settingsOf s) (wasTo s m) (timed u s (state s)))) (got-loss s m u CrossedMessage e refl)
+    ap (λ (b : Bool). cond b (moved (stateBy (held u s) (settingsOf s) (wasTo s m) (timed u s (state s))) Timer) (stateBy (held u s) (settingsOf s) (wasTo s m) (timed u s (state s)))) (got-loss s m u CrossedMessage e refl)
     ∙ rw e (split (loss u s) (λ a. rw a (crossed-down (state s))) (λ a. rw a))
 got-state s m u (HeardCc p) e =
-    ap (λ (b : Bool). cond b (moved (stateBy (settingsOf s) (wasTo s m) (timed u s (state s))) Timer) (stateBy (settingsOf s) (wasTo s m) (timed u s (state s))))
-    (heard-loss s m u (ap isHeard e)) ∙ ap (λ (y : Received). stateBy (settingsOf s) y (timed u s (state s))) e
+    ap (λ (b : Bool). cond b (moved (stateBy (held u s) (settingsOf s) (wasTo s m) (timed u s (state s))) Timer) (stateBy (held u s) (settingsOf s) (wasTo s m) (timed u s (state s))))
+    (heard-loss s m u (ap isHeard e)) ∙ ap (λ (y : Received). stateBy (held u s) (settingsOf s) y (timed u s (state s))) e
 got-state s m u HeardCv e =
-    ap (λ (b : Bool). cond b (moved (stateBy (settingsOf s) (wasTo s m) (timed u s (state s))) Timer) (stateBy (settingsOf s) (wasTo s m) (timed u s (state s))))
-    (heard-loss s m u (ap isHeard e)) ∙ ap (λ (y : Received). stateBy (settingsOf s) y (timed u s (state s))) e
+    ap (λ (b : Bool). cond b (moved (stateBy (held u s) (settingsOf s) (wasTo s m) (timed u s (state s))) Timer) (stateBy (held u s) (settingsOf s) (wasTo s m) (timed u s (state s))))
+    (heard-loss s m u (ap isHeard e)) ∙ ap (λ (y : Received). stateBy (held u s) (settingsOf s) y (timed u s (state s))) e
 got-state s m u (FaultMessage f) e =
-    ap (λ (b : Bool). cond b (moved (stateBy (settingsOf s) (wasTo s m) (timed u s (state s))) Timer) (stateBy (settingsOf s) (wasTo s m) (timed u s (state s)))) (got-loss s m u (FaultMessage f) e refl)
+    ap (λ (b : Bool). cond b (moved (stateBy (held u s) (settingsOf s) (wasTo s m) (timed u s (state s))) Timer) (stateBy (held u s) (settingsOf s) (wasTo s m) (timed u s (state s)))) (got-loss s m u (FaultMessage f) e refl)
     ∙ rw e (split (loss u s) (λ a. rw a (fault-down (actsOn (settingsOf s) f) (f .kind) (state s))) (λ a. rw a))
 
 wrote-state : (s : Story) (u : ℕ) → stateAt u (wroteCc s) ≡ stateAt u s
@@ -141,7 +141,7 @@ act-agrees now (Unlock t) s h =
     ap some (ap (cond (locked s) Down) (state-later s now t h ∙ stateAt-timed s t) ∙ sym (unlocked-state s t))
 act-agrees now (Receive m t) s h =
     ap some
-    (ap (stateBy (settingsOf s) (wasTo s (messageOf m))) (state-later s now t h ∙ stateAt-timed s t) ∙ sym (got-state s (messageOf m) t (wasTo s (messageOf m)) refl))
+    (ap (stateBy (held t s) (settingsOf s) (wasTo s (messageOf m))) (state-later s now t h ∙ stateAt-timed s t) ∙ sym (got-state s (messageOf m) t (wasTo s (messageOf m)) refl))
 act-agrees now ReportOn s h = ap some (state-later s now now h)
 act-agrees now (WriteCc b) s h = ap some (state-later s now now h ∙ sym (wrote-state s now))
 act-agrees now (WriteCv b) s h = ap some (state-later s now now h)

@@ -9,3 +9,4 @@ pub mod Worlds
 pub mod Lives
 pub mod Demand
 pub mod Further
+pub mod HoldDown

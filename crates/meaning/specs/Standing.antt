@@ -16,7 +16,7 @@ use Rattle.rules.specs.declared.Report.{Report}
 use Rattle.rules.specs.declared.Received.{Received}
 use Rattle.rules.specs.declared.Received.the-variants.{CrossedMessage, HeardCc, HeardCv, FaultMessage}
 use Rattle.rules.specs.Times.{past, within, detectionTime, crossingTime, lifetime}
-use Rattle.rules.specs.States.{moved, received, downByNeighbor}
+use Rattle.rules.specs.States.{moved, heardInput, downByNeighbor}
 use Rattle.rules.specs.Conditions.{keyOf, sameKey, follows, actsOn, faultState}
 use Rattle.rules.specs.Diagnostics.{remoteDefect, diagnosticOf, reportOf, packetOut}
 use Rattle.rules.specs.Lists.{any, only}
@@ -63,24 +63,6 @@ multiplierOf (wroteCc s) = multiplierOf s
 -- loss: not locked, and more than period times multiplier has gone since
 unfoldable pub loss : ℕ → Story → Bool
 loss now s = not (locked s) && past (timedFrom s) (detectionTime (settingsOf s .period) (multiplierOf s)) now
-
-abbrev pub stateBy : Settings → Received → State → State
-stateBy g CrossedMessage from = moved from Crossed
-stateBy g (HeardCc p) from = moved from (received (p .state))
-stateBy g HeardCv from = from
-stateBy g (FaultMessage f) from = faultState (actsOn g f) from (f .kind)
-
--- the state after the story's last call. Before a call acts, TIMER is given where there is a loss at its reading
-unfoldable pub state : Story → State
-state (opened g t) = Down
-state (lock s t) = AdminDown
-state (unlock s t) = cond (locked s) Down (cond (loss t s) (moved (state s) Timer) (state s))
-state (got s m t) = stateBy (settingsOf s) (wasTo s m) (cond (loss t s) (moved (state s) Timer) (state s))
-state (wroteCc s) = state s
-
--- the state at the clock, TIMER given
-unfoldable pub stateAt : ℕ → Story → State
-stateAt now s = cond (loss now s) (moved (state s) Timer) (state s)
 
 abbrev pub diagnosticBy : Received → ℕ → ℕ
 diagnosticBy CrossedMessage old = old
@@ -173,6 +155,29 @@ conditions now s = length (only (stands now s) (keysOf s))
 -- a condition stands that the session follows
 unfoldable pub followed : ℕ → Story → Bool
 followed now s = any (λ key. stands now s key && followedLast s key) (keysOf s)
+
+-- held down: a crossing stands, or a condition that the session follows
+unfoldable pub held : ℕ → Story → Bool
+held now s = crossing now s || followed now s
+
+abbrev pub stateBy : Bool → Settings → Received → State → State
+stateBy hold g CrossedMessage from = moved from Crossed
+stateBy hold g (HeardCc p) from = moved from (heardInput hold (p .state))
+stateBy hold g HeardCv from = from
+stateBy hold g (FaultMessage f) from = faultState (actsOn g f) from (f .kind)
+
+-- the state after the story's last call. Before a call acts, TIMER is given where there is a loss at its reading; whether a message finds
+-- the session held down is judged at its reading, on the story before it
+unfoldable pub state : Story → State
+state (opened g t) = Down
+state (lock s t) = AdminDown
+state (unlock s t) = cond (locked s) Down (cond (loss t s) (moved (state s) Timer) (state s))
+state (got s m t) = stateBy (held t s) (settingsOf s) (wasTo s m) (cond (loss t s) (moved (state s) Timer) (state s))
+state (wroteCc s) = state s
+
+-- the state at the clock, TIMER given
+unfoldable pub stateAt : ℕ → Story → State
+stateAt now s = cond (loss now s) (moved (state s) Timer) (state s)
 
 -- the report, the diagnostic and the messages of a session at the clock
 unfoldable pub report : ℕ → Story → Report

@@ -13,7 +13,7 @@ use Rattle.rules.specs.declared.Input.the-variants.{Timer}
 use Rattle.rules.specs.States.{moved}
 use Rattle.rules.specs.Calls.{Act, Close, Lock, Unlock, Receive, ReportOn, WriteCc, WriteCv, Call, Tick, Open, On, isAccepted}
 use Rattle.meaning.specs.Stories.{Story, settingsOf, wasTo}
-use Rattle.meaning.specs.Standing.{locked, loss, stateBy, stateAt}
+use Rattle.meaning.specs.Standing.{locked, loss, held, stateBy, stateAt}
 use Rattle.meaning.specs.Histories.{History, start, after, reading, clockOf, story}
 
 -- TIMER at a reading, to a session whose story is known
@@ -25,7 +25,7 @@ abbrev pub acted : Act → Story → State → Option State
 acted (Close t) s from = none
 acted (Lock t) s from = some AdminDown
 acted (Unlock t) s from = some (cond (locked s) Down from)
-acted (Receive m t) s from = some (stateBy (settingsOf s) (wasTo s (messageOf m)) from)
+acted (Receive m t) s from = some (stateBy (held t s) (settingsOf s) (wasTo s (messageOf m)) from)
 acted ReportOn s from = some from
 acted (WriteCc b) s from = some from
 acted (WriteCv b) s from = some from
