@@ -217,27 +217,30 @@ static void cross(void) {
     open_session(&a, 101, 18, 11, 21);
     pass_cv(&a, 101, &b);
     report(&b);
-    headline("set right again: both come up, and B is free 3.5 seconds after the crossed message");
+    headline("set right again: B is held down until 3.5 seconds after the crossed message");
     exchange(3000000, 6000000);
-    report(&b);
+    both_report();
     tick_and_report(&b, 6499999);
     tick_and_report(&b, 6500000);
+    headline("nothing holds B any more: both come up");
+    exchange(7000000, 9000000);
+    both_report();
 }
 
 static void cut(void) {
     headline("the wire is cut: no loss at 3 periods, a loss and its alarm one microsecond later");
-    tick_and_report(&a, 9000000);
-    now = 9000001;
+    tick_and_report(&a, 12000000);
+    now = 12000001;
     tick(&a);
     tick(&b);
     both_report();
     headline("AIS tells A why: the alarm is held back while it stands");
     ais(&a);
     report(&a);
-    tick_and_report(&a, 12500000);
-    tick_and_report(&a, 12500001);
+    tick_and_report(&a, 15500000);
+    tick_and_report(&a, 15500001);
     headline("the wire is whole: both come up again");
-    exchange(13000000, 15000000);
+    exchange(16000000, 18000000);
     both_report();
 }
 
@@ -248,15 +251,15 @@ static void lock_and_unlock(void) {
     both_report();
     headline("and unlocked");
     said(&a, "unlock", a.label, korvezul_unlock(a.row, KORVEZUL_RECORDS, &a.head, a.label, now));
-    exchange(15000000, 17000000);
+    exchange(18000000, 20000000);
     both_report();
 }
 
 static void refusals(void) {
     headline("refusals");
-    now = 16999999;
+    now = 19999999;
     said(&a, "close", a.label, korvezul_close(a.row, KORVEZUL_RECORDS, &a.head, a.label, now));
-    now = 17000000;
+    now = 20000000;
     said(&a, "close", a.label, korvezul_close(a.row, KORVEZUL_RECORDS - 1, &a.head, a.label, now));
     said(&a, "close", a.label, korvezul_close(a.row, KORVEZUL_RECORDS, &a.head, a.label, now));
     report(&a);

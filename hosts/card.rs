@@ -150,7 +150,7 @@ fn check_layout() {
     let peer = Peer { remote: heard.my, multiplier: 5, diagnostic: 9, owed: 1 };
     assert_eq!(
         t.row[0],
-        Session { timed: 0x010204, crossed: 0x010206, conditions, settings, peer, state: 2, crossing: 1 }
+        Session { timed: 0x010204, crossed: 0x010206, conditions, settings, peer, state: 1, crossing: 1 }
     );
     assert_eq!(t.head, Head { clock: 0x010206, occupied: 1 });
 }
@@ -312,40 +312,43 @@ fn cross(a: &mut End, b: &mut End) {
     a.open(3000000, 101, 18, 11, 21);
     pass_cv(3000000, a, 101, b);
     b.report(3000000);
-    println!("-- set right again: both come up, and B is free 3.5 seconds after the crossed message");
+    println!("-- set right again: B is held down until 3.5 seconds after the crossed message");
     exchange(3000000, 6000000, a, b);
-    b.report(6000000);
+    both_report(6000000, a, b);
     tick_and_report(6499999, b);
     tick_and_report(6500000, b);
+    println!("-- nothing holds B any more: both come up");
+    exchange(7000000, 9000000, a, b);
+    both_report(9000000, a, b);
 }
 
 fn cut(a: &mut End, b: &mut End) {
     println!("-- the wire is cut: no loss at 3 periods, a loss and its alarm one microsecond later");
-    tick_and_report(9000000, a);
-    a.tick(9000001);
-    b.tick(9000001);
-    both_report(9000001, a, b);
+    tick_and_report(12000000, a);
+    a.tick(12000001);
+    b.tick(12000001);
+    both_report(12000001, a, b);
     println!("-- AIS tells A why: the alarm is held back while it stands");
-    ais(9000001, a);
-    a.report(9000001);
-    tick_and_report(12500000, a);
-    tick_and_report(12500001, a);
+    ais(12000001, a);
+    a.report(12000001);
+    tick_and_report(15500000, a);
+    tick_and_report(15500001, a);
     println!("-- the wire is whole: both come up again");
-    exchange(13000000, 15000000, a, b);
-    both_report(15000000, a, b);
+    exchange(16000000, 18000000, a, b);
+    both_report(18000000, a, b);
 }
 
 fn lock_and_unlock(a: &mut End, b: &mut End) {
     println!("-- A is locked: B hears ADMIN DOWN, and A takes no BFD message");
-    let answer = a.table.lock(100, 15000000);
-    a.said(15000000, "lock 100", answer);
-    both(15000000, a, b);
-    both_report(15000000, a, b);
+    let answer = a.table.lock(100, 18000000);
+    a.said(18000000, "lock 100", answer);
+    both(18000000, a, b);
+    both_report(18000000, a, b);
     println!("-- and unlocked");
-    let answer = a.table.unlock(100, 15000000);
-    a.said(15000000, "unlock 100", answer);
-    exchange(15000000, 17000000, a, b);
-    both_report(17000000, a, b);
+    let answer = a.table.unlock(100, 18000000);
+    a.said(18000000, "unlock 100", answer);
+    exchange(18000000, 20000000, a, b);
+    both_report(20000000, a, b);
 }
 
 /// Close, of the first records of the row.
@@ -356,11 +359,11 @@ fn close_of(table: &mut Table, records: usize, label: u32, reading: u64) -> u32 
 
 fn refusals(a: &mut End) {
     println!("-- refusals");
-    for (now, records) in [(16999999, RECORDS), (17000000, RECORDS - 1), (17000000, RECORDS)] {
+    for (now, records) in [(19999999, RECORDS), (20000000, RECORDS - 1), (20000000, RECORDS)] {
         let answer = close_of(&mut a.table, records, 100, now);
         a.said(now, "close 100", answer);
     }
-    a.report(17000000);
+    a.report(20000000);
 }
 
 fn main() {

@@ -3,7 +3,7 @@
 use crate::capture::{Kind, Next, Reader, Record};
 use crate::edges::{self, Edge};
 use crate::make;
-use crate::message::{self, Message};
+use crate::message::{self, Message, State};
 use crate::places;
 use crate::session::{Report, Session};
 use crate::table::{Answer, Table, LARGEST_READING};
@@ -24,7 +24,7 @@ const DEFECTS: [&str; 7] = [
 ];
 const EDGES: [&str; 3] = ["detection time", "misconnectivity", "condition"];
 const WAYS: [&str; 3] = ["any call", "message on it", "seen on it"];
-const EXTRAS: [&str; 8] = [
+const EXTRAS: [&str; 12] = [
     "accepted CC",
     "accepted CV",
     "accepted AIS or LKR",
@@ -33,6 +33,10 @@ const EXTRAS: [&str; 8] = [
     "written with F",
     "sessions open at a call: 64",
     "sessions UP at a call: more than half",
+    "CC held down by a crossing",
+    "CC held down by a condition alone",
+    "CC held down that would have led to INIT or UP",
+    "crossed in INIT",
 ];
 const ENDS: [&str; 3] = ["whole", "cut", "bad header"];
 
@@ -50,7 +54,7 @@ struct Counts {
     edges: [[Sides; 3]; 3],
     clock: Sides,
     largest: Sides,
-    extras: [u64; 8],
+    extras: [u64; 12],
     ends: [u64; 3],
 }
 
@@ -130,7 +134,7 @@ impl Counts {
     }
 
     fn add_accepted(&mut self, before: &[Session], record: &Record) {
-        let up = before.iter().filter(|s| s.state == message::State::Up);
+        let up = before.iter().filter(|s| s.state == State::Up);
         self.extras[6] += u64::from(before.len() == 64);
         self.extras[7] += u64::from(2 * up.count() > before.len());
         if record.kind != Kind::Receive {
@@ -148,6 +152,24 @@ impl Counts {
         self.extras[kind] += 1;
         self.extras[3] += u64::from(body.len() > read.used);
         self.extras[4] += u64::from(kind < 2 && body[7] > 24);
+        if let Some(session) = before.iter().find(|s| s.settings.label == record.label) {
+            self.add_held(session, &read.message, record.time);
+        }
+    }
+
+    /// Counts what an accepted BFD message meets that is or becomes held down.
+    fn add_held(&mut self, session: &Session, message: &Message, now: u64) {
+        if session.is_misconnected(message) {
+            let in_init = session.state == State::Init && !session.has_loss(now);
+            self.extras[11] += u64::from(in_init);
+        } else if let Message::Cc(bfd) = message {
+            let held = session.is_held_down(now);
+            let crossing = session.has_misconnectivity(now);
+            let leads_up = matches!(bfd.state, State::Down | State::Init);
+            self.extras[8] += u64::from(crossing);
+            self.extras[9] += u64::from(held && !crossing);
+            self.extras[10] += u64::from(held && leads_up);
+        }
     }
 
     fn add_report(&mut self, report: &Report) {

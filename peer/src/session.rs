@@ -179,13 +179,19 @@ impl Session {
     /// Takes in a message that is not refused.
     pub fn take(&mut self, message: &Message, now: u64) {
         match message {
-            Message::Cc(bfd) if self.is_foreign(bfd) => self.misconnect(now),
+            _ if self.is_misconnected(message) => self.misconnect(now),
             Message::Cc(bfd) => self.process_cc(bfd, now),
-            Message::Cv(bfd, source) if self.is_foreign(bfd) || self.is_wrong(source) => {
-                self.misconnect(now)
-            }
             Message::Cv(..) => self.detecting_since = now,
             Message::Fault(fault) => self.take_fault(fault, now),
+        }
+    }
+
+    /// Whether the message is one of another circuit.
+    pub fn is_misconnected(&self, message: &Message) -> bool {
+        match message {
+            Message::Cc(bfd) => self.is_foreign(bfd),
+            Message::Cv(bfd, source) => self.is_foreign(bfd) || self.is_wrong(source),
+            Message::Fault(_) => false,
         }
     }
 
@@ -199,12 +205,10 @@ impl Session {
         *source != self.settings.expected
     }
 
-    /// A message of another circuit is dated and takes UP to DOWN; INIT stays.
+    /// A message of another circuit is dated and takes INIT and UP to DOWN.
     fn misconnect(&mut self, now: u64) {
         self.last_misconnected = Some(now);
-        if self.state == State::Up {
-            self.take_down();
-        }
+        self.take_down();
     }
 
     fn process_cc(&mut self, bfd: &Bfd, now: u64) {
@@ -213,7 +217,16 @@ impl Session {
         self.remote_discriminator = Some(bfd.my_discriminator);
         self.remote_diagnostic = Some(bfd.diagnostic);
         self.reply_owed |= bfd.poll;
-        self.process_state(bfd.state);
+        match self.is_held_down(now) {
+            true => self.take_down(),
+            false => self.process_state(bfd.state),
+        }
+    }
+
+    /// Whether a defect stands that keeps the session from coming up: then a
+    /// received state counts no more than TIMER would.
+    pub fn is_held_down(&self, now: u64) -> bool {
+        self.has_misconnectivity(now) || self.has_followed_condition(now)
     }
 
     /// The state machine of figure 7 for a received state.
@@ -275,6 +288,10 @@ impl Session {
         }
     }
 
+    fn has_followed_condition(&self, now: u64) -> bool {
+        self.standing(now).any(|condition| self.follows(condition))
+    }
+
     /// What the session reports at the clock.
     pub fn report(&self, now: u64) -> Report {
         let misconnectivity = self.has_misconnectivity(now);
@@ -298,7 +315,7 @@ impl Session {
             7
         } else if self.has_misconnectivity(now) {
             9
-        } else if self.standing(now).any(|c| self.follows(c)) {
+        } else if self.has_followed_condition(now) {
             5
         } else if self.has_loss(now) {
             1
@@ -351,5 +368,63 @@ fn key_of(fault: &Fault) -> Key {
     Key {
         kind: fault.kind,
         interface: fault.interface,
+    }
+}
+
+#[cfg(test)]
+mod tests {
+    use super::*;
+
+    /// A session in UP, as no calls leave it where it is held down.
+    fn session_up() -> Session {
+        let mep_id = MepId {
+            kind: 0,
+            value: [0; 12],
+        };
+        let settings = Settings {
+            label: 100,
+            discriminator: 17,
+            period: 1_000,
+            own: mep_id,
+            expected: mep_id,
+            follows_link_down: true,
+            follows_lock: false,
+        };
+        let mut session = Session::open(settings, 0);
+        session.state = State::Up;
+        session.remote_discriminator = Some(5);
+        session
+    }
+
+    fn cc(state: State) -> Message {
+        Message::Cc(Bfd {
+            diagnostic: 0,
+            state,
+            poll: false,
+            multiplier: 3,
+            my_discriminator: 5,
+            your_discriminator: 17,
+        })
+    }
+
+    const STATES: [State; 4] = [State::AdminDown, State::Down, State::Init, State::Up];
+
+    #[test]
+    fn the_hold_takes_up_down_as_timer_does() {
+        for state in STATES {
+            let mut session = session_up();
+            session.last_misconnected = Some(0);
+            session.take(&cc(state), 1);
+            assert_eq!(session.state, State::Down);
+            assert!(!session.taken_down_by_peer);
+        }
+    }
+
+    #[test]
+    fn without_a_hold_a_received_state_takes_up_down() {
+        let mut session = session_up();
+        session.take(&cc(State::AdminDown), 1);
+        assert_eq!(session.state, State::Down);
+        assert!(session.taken_down_by_peer);
     }
 }

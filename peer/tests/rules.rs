@@ -162,13 +162,13 @@ fn a_crossed_message_takes_up_down_and_restarts_nothing() {
 }
 
 #[test]
-fn a_crossed_message_leaves_init() {
+fn a_crossed_message_takes_init_down() {
     Capture::new()
         .open(0, 0)
         .receive(0, &cc(DOWN, 0))
         .receive(0, &cv(UP, 0, CROSSED))
         .report()
-        .prints(&["1 0", "2 0", "3 0", "4 0 2 1 0 0 0 1 0"]);
+        .prints(&["1 0", "2 0", "3 0", "4 0 1 1 0 0 0 1 0"]);
 }
 
 #[test]
@@ -290,7 +290,8 @@ fn a_condition_is_dated_from_its_last_message() {
 
 #[test]
 fn link_down_and_lock_report_are_followed() {
-    // The diagnostic is 5 while the condition stands with L, 0 without.
+    // The diagnostic is 5 while the condition stands with L, 0 without; and
+    // so long the session is held down.
     Capture::new()
         .open(0, 1)
         .receive(0, &cc(INIT, DISCRIMINATOR))
@@ -303,6 +304,7 @@ fn link_down_and_lock_report_are_followed() {
         .receive(0, &cc(INIT, DISCRIMINATOR))
         .report()
         .receive(0, &fault(AIS, 0, 1, &[]))
+        .receive(0, &cc(INIT, DISCRIMINATOR))
         .write_cc()
         .prints(&[
             "1 0",
@@ -314,9 +316,10 @@ fn link_down_and_lock_report_are_followed() {
             "7 0 1 0 0 0 0 0 2",
             "8 0 10000022254003180000001100000005000f4240000f424000000000",
             "9 0",
-            "10 0 3 0 0 0 0 0 2",
+            "10 0 1 0 0 0 0 0 2",
             "11 0",
-            "12 0 1000002220c003180000001100000005000f4240000f424000000000",
+            "12 0",
+            "13 0 1000002220c003180000001100000005000f4240000f424000000000",
         ]);
 }
 

@@ -9,7 +9,7 @@ use crate::settings::OPEN_BODY;
 
 /// The scenarios, each with its weight in the styles Mixed, Steady, Faults,
 /// Damage and Edges.
-const SCENARIOS: [(Scenario, [u64; 5]); 27] = [
+const SCENARIOS: [(Scenario, [u64; 5]); 28] = [
     (Maker::tick, [8, 3, 4, 3, 10]),
     (Maker::open_well, [8, 2, 4, 4, 6]),
     (Maker::open_oddly, [10, 4, 4, 6, 6]),
@@ -37,6 +37,7 @@ const SCENARIOS: [(Scenario, [u64; 5]); 27] = [
     (Maker::step_state_machine, [5, 2, 2, 1, 4]),
     (Maker::reopen, [2, 1, 2, 1, 2]),
     (Maker::send_two_wrongs, [4, 1, 2, 15, 1]),
+    (Maker::hold_down, [4, 1, 4, 1, 6]),
 ];
 
 type Scenario = fn(&mut Maker);

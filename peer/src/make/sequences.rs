@@ -3,6 +3,7 @@
 use super::draft::{interface_tlv, FaultDraft, ALARM_INDICATION, CLEAR, LINK_DOWN, LOCK_REPORT};
 use super::{Circuit, Maker};
 use crate::capture::Kind;
+use crate::edges::{self, Edge};
 use crate::message::State;
 
 impl Maker {
@@ -127,6 +128,54 @@ impl Maker {
             self.observe(&circuit);
             draft.flags ^= self.random.pick(&[0, 0, CLEAR, LINK_DOWN]);
         }
+    }
+
+    /// A crossing or a fault message that may be followed, and CCs while it
+    /// stands, at the last reading at which it does and at the first free one.
+    pub(super) fn hold_down(&mut self) {
+        let circuit = self.ready_circuit();
+        match self.random.below(3) {
+            0 => self.go_down(&circuit),
+            1 => self.lead_to_init(&circuit),
+            _ => {}
+        }
+        let message = match self.random.chance(50) {
+            true => self.misconnected(&circuit).octets([6; 3]),
+            false => FaultDraft {
+                kind: self.random.pick(&[ALARM_INDICATION, LOCK_REPORT]),
+                flags: LINK_DOWN,
+                refresh: 1,
+                tlvs: self.good_tlvs(),
+            }
+            .octets(),
+        };
+        let time = self.soon();
+        self.receive(&circuit, time, message);
+        let clock = self.table.clock();
+        let ends = self.session(&circuit).map_or(Vec::new(), edges::of);
+        let last = ends.iter().filter(|(edge, _)| *edge != Edge::Detection);
+        let Some(end) = last.map(|&(_, end)| end).filter(|&end| end > clock).max() else {
+            return;
+        };
+        for time in [clock, end - 1, end] {
+            let mut draft = self.good_cc(&circuit);
+            draft.state = self.random.pick(&[0, 1, 1, 2, 2, 2, 3]);
+            draft.your = circuit.discriminator;
+            let message = self.bfd_octets(&draft);
+            self.receive(&circuit, time, message);
+        }
+    }
+
+    /// A lock, an unlock and a CC of state DOWN.
+    fn lead_to_init(&mut self, circuit: &Circuit) {
+        let clock = self.table.clock();
+        self.call(Kind::Lock, clock, circuit.label, &[]);
+        self.call(Kind::Unlock, clock, circuit.label, &[]);
+        let mut draft = self.good_cc(circuit);
+        draft.state = 1;
+        draft.your = 0;
+        let message = self.bfd_octets(&draft);
+        self.receive(circuit, clock, message);
     }
 
     /// A lock and an unlock of a session with much to remember or forget.
