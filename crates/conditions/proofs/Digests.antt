@@ -18,8 +18,10 @@ use Rattle.conditions.specs.declared.Conditions.{Conditions}
 use Rattle.conditions.specs.declared.sound.Digest.{Digest}
 use Rattle.conditions.specs.Standing.{filled, fresh, placeStands}
 use Rattle.conditions.specs.Soundness.{placeSound, clash, conditionsSound}
-use Rattle.conditions.specs.Digests.{blankOf, tagOf, wordOf, keyDigest, digestOf, alike}
+use Rattle.conditions.specs.Digests.{blankOf, markedBy, tagWith, tagOf, wordOf, keyDigest, digestOf, alike}
 use Rattle.conditions.proofs.Fading.{place-says}
+use Rattle.conditions.proofs.Marks.{marked-below, marked-says, says-marked}
+use Rattle.conditions.proofs.Held.{KeyHeld}
 use Rattle.conditions.proofs.Taken.{Apart, Sound, sound-says}
 
 pub told-sound : (c : Condition) (clock : ℕ) → digestOf c clock .sound ≡ placeSound c clock
@@ -27,19 +29,11 @@ unfolding digestOf
 told-sound c clock =
     split (placeSound c clock) (λ s. split (placeStands c clock) (λ t. rw (s, t)) (λ t. rw (s, t))) (λ s. rw s)
 
--- a key whose node fits its 32 bits and whose mark is 0 or 1
+-- a key whose Node and Global_ID fit their 32 bits and whose marks are 0 or 1
 pub record Fits (k : Key) : Type 0 where
-  pub node : k .node < 4294967296
+  pub held : KeyHeld k
   pub present : k .present < 2
-
--- tag and word, with no IF_ID and with one
-without-id : (k : Key) → k .present ≡ 0 → (tagOf k ≡ 2 * k .kind) × (wordOf k ≡ 0)
-unfolding tagOf wordOf
-without-id k e = let z = eq-eqb (k .present) 0 e in (rw z, rw z)
-
-with-id : (k : Key) → (k .present ≡ 0 → ⊥) → (tagOf k ≡ 2 * k .kind + 1) × (wordOf k ≡ k .interface * 4294967296 + k .node)
-unfolding tagOf wordOf
-with-id k n = let z = ne-eqb (k .present) 0 n in (rw z, rw z)
+  pub carrier : k .carrier < 2
 
 unlike-blank : (x : Digest) → alike x (blankOf true) ≡ false
 unfolding alike
@@ -47,45 +41,47 @@ unlike-blank x = refl
 
 -- a filled key has no tag 0, so no digest of an empty place is alike to its own
 tag-filled : (k : Key) → 1 ≤ k .kind → eqb (tagOf k) 0 ≡ false
-unfolding tagOf
-tag-filled k h =
-    split (eqb (k .present) 0) (λ z. rw z (ne-eqb (2 * k .kind) 0 (λ e. omega arith))) (λ z. rw z (ne-eqb (2 * k .kind + 1) 0 (λ e. omega arith)))
+unfolding tagWith
+tag-filled k h = ne-eqb (tagOf k) 0 (λ e. omega arith)
 
 blank-unlike : (k : Key) → 1 ≤ k .kind → alike (blankOf true) (keyDigest k) ≡ false
 unfolding alike
 blank-unlike k h = rw (tag-filled k h, ne-eqb 0 (tagOf k) (λ e. eqb-false (tagOf k) 0 (tag-filled k h) (sym e)))
 
--- equal tags and words are one key: the node, below 2 to the 32, does not reach into the interface
+-- equal tags and words are one key: the Global_ID, below 2 to the 32, does not reach into type and marks, nor the node into the interface
 module _ (a b : Key) (f : Fits a) (g : Fits b) where
+  -- the tag taken apart
+  told-marks : tagOf a ≡ tagOf b
+      → (a .kind ≡ b .kind) × ((a .present ≡ b .present) × ((a .carrier ≡ b .carrier) × (markedBy (a .carrier) (a .global) ≡ markedBy (b .carrier) (b .global))))
+  unfolding tagWith
+  told-marks t =
+      let x = marked-below (a .carrier) (a .global) 4294967296 (f .held .global) in
+      let y = marked-below (b .carrier) (b .global) 4294967296 (g .held .global) in
+      let p = f .present in
+      let q = g .present in
+      let u = f .carrier in
+      let v = g .carrier in
+      (omega arith, (omega arith, (omega arith, omega arith)))
+
   told-same : tagOf a ≡ tagOf b → wordOf a ≡ wordOf b → OneKey a b
   told-same t w =
-      split (eqb (a .present) 0)
-      (λ x. let p = eqb-true _ _ x in
-      let u = without-id a p in
-      split (eqb (b .present) 0)
-      (λ y. let q = eqb-true _ _ y in
-      let v = without-id b q in
-      record { kind = omega arith; present = omega arith; place = inl p })
-      (λ y. let v = with-id b (eqb-false _ _ y) in absurd (omega arith)))
-      (λ x. let p = eqb-false _ _ x in
-      let u = with-id a p in
-      split (eqb (b .present) 0)
-      (λ y. let v = without-id b (eqb-true _ _ y) in absurd (omega arith))
-      (λ y. let q = eqb-false _ _ y in
-      let v = with-id b q in
-      record { kind = omega arith; present = omega (arith, p, q); place = inr (omega arith, omega arith) }))
+      let m = told-marks t in
+      let h = f .held .node in
+      let k = g .held .node in
+      record {
+        kind = m .0;
+        present = m .1 .0;
+        place = ⊎-elim (λ z. inl z) (λ z. inr (omega arith, omega arith)) (marked-says (a .present) (b .present) _ _ (m .1 .0) w);
+        carrier = m .1 .1 .0;
+        global = marked-says (a .carrier) (b .carrier) _ _ (m .1 .1 .0) (m .1 .1 .1);
+      }
 
   same-told : OneKey a b → (tagOf a ≡ tagOf b) × (wordOf a ≡ wordOf b)
-  same-told s =
-      split (eqb (a .present) 0)
-      (λ x. let p = eqb-true _ _ x in
-      let u = without-id a p in
-      let v = without-id b (sym (s .present) ∙ p) in
-      (omega (arith, s .kind), omega arith))
-      (λ x. let p = eqb-false _ _ x in
-      let u = with-id a p in
-      let v = with-id b (λ z. p (s .present ∙ z)) in
-      ⊎-elim (λ z. absurd (p z)) (λ z. (omega (arith, s .kind), omega arith)) (s .place))
+  unfolding tagWith
+  same-told s = (
+    rw (says-marked (a .carrier) (b .carrier) (a .global) (b .global) (s .carrier) (s .global), s .kind, s .present, s .carrier),
+    says-marked (a .present) (b .present) _ _ (s .present) (⊎-elim (λ z. inl z) (λ z. inr (rw (z .0, z .1))) (s .place)),
+  )
 
   alike-keys : 1 ≤ b .kind → alike (keyDigest a) (keyDigest b) ≡ sameKey a b
   unfolding alike
@@ -106,17 +102,19 @@ lapsed-digest : (c : Condition) (clock : ℕ) → placeSound c clock ≡ true �
 unfolding digestOf
 lapsed-digest c clock s t = rw (s, t)
 
--- what stands in a sound place has a type and a mark of 0 or 1
+-- what stands in a sound place has a type and marks of 0 or 1
 record Stands (c : Condition) : Type 0 where
   kind : 1 ≤ c .key .kind
   present : c .key .present < 2
+  carrier : c .key .carrier < 2
 
 stands-says : (c : Condition) (clock : ℕ) → placeSound c clock ≡ true → placeStands c clock ≡ true → Stands c
 unfolding placeStands
 stands-says c clock s t =
     let f = and-both (filled c) (fresh c clock) t .0 in
     let n = eqb-false (c .key .kind) 0 (not-true _ f) in
-    record { kind = omega (arith, n); present = place-says c clock s f .present }
+    let p = place-says c clock s f in
+    record { kind = omega (arith, n); present = p .present; carrier = p .carrier }
 
 regrouped : (f g k x y : Bool) → (f && g && k && x && y) ≡ ((f && x) && (g && y) && k)
 regrouped false g k x y = refl
@@ -134,7 +132,7 @@ clash-stands : (a b : Condition) (clock : ℕ) → clash a b clock ≡ (placeSta
 unfolding clash placeStands
 clash-stands a b clock = regrouped (filled a) (filled b) (sameKey (a .key) (b .key)) (fresh a clock) (fresh b clock)
 
-module _ (a b : Condition) (clock : ℕ) (m : a .key .node < 4294967296) (n : b .key .node < 4294967296) (p : placeSound a clock ≡ true) (q : placeSound b clock ≡ true) where
+module _ (a b : Condition) (clock : ℕ) (m : KeyHeld (a .key)) (n : KeyHeld (b .key)) (p : placeSound a clock ≡ true) (q : placeSound b clock ≡ true) where
   -- alike where they clash
   pub alike-clash : alike (digestOf a clock) (digestOf b clock) ≡ clash a b clock
   alike-clash =
@@ -142,8 +140,10 @@ module _ (a b : Condition) (clock : ℕ) (m : a .key .node < 4294967296) (n : b 
       (split (placeStands b clock)
       (λ t. let y = stands-says b clock q t in
       split (placeStands a clock)
-      (λ s. rw (s, t, stands-digest a clock p s, stands-digest b clock q t)
-      (alike-keys (a .key) (b .key) (record { node = m; present = stands-says a clock p s .present }) (record { node = n; present = y .present }) (y .kind)))
+      (λ s. let x = stands-says a clock p s in
+      rw (s, t, stands-digest a clock p s, stands-digest b clock q t)
+      (alike-keys (a .key) (b .key)
+      (record { held = m; present = x .present; carrier = x .carrier }) (record { held = n; present = y .present; carrier = y .carrier }) (y .kind)))
       (λ s. rw (s, lapsed-digest a clock p s, stands-digest b clock q t) (blank-unlike (b .key) (y .kind))))
       (λ t. rw (lapsed-digest b clock q t) (split (placeStands a clock) (λ s. rw (s, t) (unlike-blank (digestOf a clock))) (λ s. rw s (unlike-blank (digestOf a clock))))))
 
@@ -159,7 +159,7 @@ pub unsound : (c : Condition) (clock : ℕ) {d : Digest} → d ≡ digestOf c cl
 unsound c clock e f s = true-false s (sym (told-sound c clock) ∙ ap (λ (x : Digest). x .sound) (sym e) ∙ not-true _ f)
 
 -- two places with theirs
-module _ (a b : Condition) (clock : ℕ) {x y : Digest} (m : a .key .node < 4294967296) (n : b .key .node < 4294967296) (d : x ≡ digestOf a clock) (e : y ≡ digestOf b clock) where
+module _ (a b : Condition) (clock : ℕ) {x y : Digest} (m : KeyHeld (a .key)) (n : KeyHeld (b .key)) (d : x ≡ digestOf a clock) (e : y ≡ digestOf b clock) where
   pub apart : alike x y ≡ false → placeSound a clock ≡ true → placeSound b clock ≡ true → Apart clock a b
   apart f p q = sym (alike-clash a b clock m n p q) ∙ rw (← d, ← e) f
 

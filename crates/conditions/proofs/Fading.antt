@@ -15,7 +15,7 @@ use Rattle.conditions.specs.declared.Condition.{Condition}
 use Rattle.conditions.specs.declared.Conditions.{Conditions}
 use Rattle.conditions.specs.Standing.{filled, fresh, placeStands, countAt}
 use Rattle.conditions.specs.Soundness.{placeSound, placesSound, clash, noClash, conditionsSound}
-use Rattle.conditions.specs.Unsound.{OutOfRange, kindAbove, presentMark, linkFlag, noRefresh, refreshAbove, datedAbove}
+use Rattle.conditions.specs.Unsound.{OutOfRange, kindAbove, presentMark, carrierMark, linkFlag, noRefresh, refreshAbove, datedAbove}
 use Rattle.conditions.proofs.Unsound.{place-unsound}
 
 bit-most : (b : Bool) → bitOf b ≤ 1
@@ -36,6 +36,7 @@ at-most-four cs now =
 pub record PlaceSays (c : Condition) (clock : ℕ) : Type 0 where
   pub kind : c .key .kind ≤ 2
   pub present : c .key .present < 2
+  pub carrier : c .key .carrier < 2
   pub linkdown : c .linkdown < 2
   pub low : 1 ≤ c .refresh
   pub high : c .refresh ≤ 20
@@ -47,6 +48,7 @@ place-filled c clock s = forced (placeSound c clock) (λ e. no (place-unsound c 
     no : OutOfRange c clock → ⊥
     no (kindAbove h) = omega (arith, s .kind)
     no (presentMark h) = omega (arith, s .present)
+    no (carrierMark h) = omega (arith, s .carrier)
     no (linkFlag h) = omega (arith, s .linkdown)
     no (noRefresh h) = omega (arith, s .low)
     no (refreshAbove h) = omega (arith, s .high)
@@ -61,6 +63,7 @@ place-says c clock e f =
     record {
       kind = at-most _ 2 (λ h. no (kindAbove h));
       present = omega (arith, at-most (c .key .present) 1 (λ h. no (presentMark h)));
+      carrier = omega (arith, at-most (c .key .carrier) 1 (λ h. no (carrierMark h)));
       linkdown = omega (arith, at-most (c .linkdown) 1 (λ h. no (linkFlag h)));
       low = at-most 1 _ (λ h. no (noRefresh (omega arith)));
       high = at-most _ 20 (λ h. no (refreshAbove h));
@@ -84,7 +87,15 @@ module _ (now later : ℕ) (h : now ≤ later) where
       split (filled c)
       (λ f. let s = place-says c now e f in
       place-filled c later
-      (record { kind = s .kind; present = s .present; linkdown = s .linkdown; low = s .low; high = s .high; date = omega (arith, s .date) }))
+      (record {
+        kind = s .kind;
+        present = s .present;
+        carrier = s .carrier;
+        linkdown = s .linkdown;
+        low = s .low;
+        high = s .high;
+        date = omega (arith, s .date);
+      }))
       (λ f. place-empty c later f)
 
   clash-before : (a b : Condition) → clash a b later ≡ true → clash a b now ≡ true

@@ -12,7 +12,7 @@ use Rattle.fault.specs.declared.Fault.{Fault}
 use Rattle.rules.specs.declared.Key.{Key}
 use Rattle.rules.specs.Conditions.{keyOf, sameKey}
 use Rattle.rules.proofs.Bools.{split, both-true, refuted, true-false}
-use Rattle.rules.proofs.SameKeys.{same-sym, key-kind, key-present}
+use Rattle.rules.proofs.SameKeys.{same-sym, if-id-marked, global-id-marked}
 use Rattle.conditions.specs.declared.Condition.{Condition}
 use Rattle.conditions.specs.declared.Conditions.{Conditions}
 use Rattle.conditions.specs.Standing.{filled, fresh, placeStands}
@@ -196,8 +196,9 @@ taken-sound cs f now k l h e =
     let n = conditionOf f now in
     let p : PlaceSays n now =
     record {
-      kind = rw (key-kind (f .kind) (f .interface)) k;
-      present = omega (arith, key-present (f .kind) (f .interface));
+      kind = k;
+      present = omega (arith, if-id-marked (f .interface));
+      carrier = omega (arith, global-id-marked (f .global));
       linkdown = bit-small (f .linkdown);
       low = l;
       high = h;

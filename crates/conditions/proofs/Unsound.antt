@@ -16,7 +16,7 @@ use Rattle.conditions.specs.declared.Condition.{Condition}
 use Rattle.conditions.specs.declared.Conditions.{Conditions}
 use Rattle.conditions.specs.Standing.{filled, fresh}
 use Rattle.conditions.specs.Soundness.{fieldsSound, placeSound, clash, noClash, placesSound, conditionsSound}
-use Rattle.conditions.specs.Unsound.{placeAt, OutOfRange, kindAbove, presentMark, linkFlag, noRefresh, refreshAbove, datedAbove, UnsoundPlace, TwoOfOneKey, UnsoundConditions, placeWrong, keyTwice}
+use Rattle.conditions.specs.Unsound.{placeAt, OutOfRange, kindAbove, presentMark, carrierMark, linkFlag, noRefresh, refreshAbove, datedAbove, UnsoundPlace, TwoOfOneKey, UnsoundConditions, placeWrong, keyTwice}
 
 -- One place
 
@@ -35,15 +35,18 @@ module _ (c : Condition) (clock : ℕ) where
             one-fails
             (one-fails
             (one-fails
-            (one-fails (one-fails (λ z. kindAbove (leb-false _ 2 z)) (λ z. presentMark (no-mark _ z))) (λ z. linkFlag (no-mark _ z)))
+            (one-fails
+            (one-fails (one-fails (λ z. kindAbove (leb-false _ 2 z)) (λ z. presentMark (no-mark _ z))) (λ z. carrierMark (no-mark _ z)))
+            (λ z. linkFlag (no-mark _ z)))
             (λ z. noRefresh (omega (arith, leb-false 1 (c .refresh) z))))
             (λ z. refreshAbove (leb-false _ 20 z)))
             (λ z. datedAbove (leb-false _ clock z)) e;
       })
 
-  out-fails : OutOfRange c clock → fieldsSound (c .key .kind) (c .key .present) (c .linkdown) (c .refresh) (c .at) clock ≡ false
+  out-fails : OutOfRange c clock → fieldsSound (c .key .kind) (c .key .present) (c .key .carrier) (c .linkdown) (c .refresh) (c .at) clock ≡ false
   out-fails (kindAbove h) = rw (lt-leb (c .key .kind) 2 h)
   out-fails (presentMark h) = simp (mark-fails (c .key .present) h, and-false)
+  out-fails (carrierMark h) = simp (mark-fails (c .key .carrier) h, and-false)
   out-fails (linkFlag h) = simp (mark-fails (c .linkdown) h, and-false)
   out-fails (noRefresh h) = simp (lt-leb 1 (c .refresh) (omega arith), and-false)
   out-fails (refreshAbove h) = simp (lt-leb (c .refresh) 20 h, and-false)

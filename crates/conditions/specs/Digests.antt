@@ -14,13 +14,20 @@ use Rattle.conditions.specs.Soundness.{placeSound}
 abbrev pub blankOf : Bool → Digest
 blankOf sound = record { sound = sound; tag = 0; word = 0 }
 
--- twice the type, and one more where there is an IF_ID
-unfoldable pub tagOf : Key → ℕ
-tagOf k = cond (eqb (k .present) 0) (2 * k .kind) (2 * k .kind + 1)
+-- a number that is there only where its mark is not 0
+unfoldable pub markedBy : ℕ → ℕ → ℕ
+markedBy mark number = cond (eqb mark 0) 0 number
+
+-- type and marks above the Global_ID
+unfoldable pub tagWith : ℕ → ℕ → ℕ → ℕ → ℕ
+tagWith kind present carrier global = (4 * kind + 2 * present + carrier) * 4294967296 + markedBy carrier global
+
+abbrev pub tagOf : Key → ℕ
+tagOf k = tagWith (k .kind) (k .present) (k .carrier) (k .global)
 
 -- the interface above the node; 0 where there is no IF_ID
-unfoldable pub wordOf : Key → ℕ
-wordOf k = cond (eqb (k .present) 0) 0 (k .interface * 4294967296 + k .node)
+abbrev pub wordOf : Key → ℕ
+wordOf k = markedBy (k .present) (k .interface * 4294967296 + k .node)
 
 abbrev pub keyDigest : Key → Digest
 keyDigest k = record { sound = true; tag = tagOf k; word = wordOf k }

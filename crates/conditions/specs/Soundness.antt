@@ -10,12 +10,13 @@ use Rattle.conditions.specs.declared.Conditions.{Conditions}
 use Rattle.conditions.specs.Standing.{filled, fresh}
 
 -- type 1 or 2, marks 0 or 1, refresh 1 to 20, dated no later than the clock
-abbrev pub fieldsSound : ℕ → ℕ → ℕ → ℕ → ℕ → ℕ → Bool
-fieldsSound kind present linkdown refresh at clock =
-    leb kind 2 && ltb present 2 && ltb linkdown 2 && leb 1 refresh && leb refresh 20 && leb at clock
+abbrev pub fieldsSound : ℕ → ℕ → ℕ → ℕ → ℕ → ℕ → ℕ → Bool
+fieldsSound kind present carrier linkdown refresh at clock =
+    leb kind 2 && ltb present 2 && ltb carrier 2 && ltb linkdown 2 && leb 1 refresh && leb refresh 20 && leb at clock
 
 unfoldable pub placeSound : Condition → ℕ → Bool
-placeSound c clock = not (filled c) || fieldsSound (c .key .kind) (c .key .present) (c .linkdown) (c .refresh) (c .at) clock
+placeSound c clock =
+    not (filled c) || fieldsSound (c .key .kind) (c .key .present) (c .key .carrier) (c .linkdown) (c .refresh) (c .at) clock
 
 -- two conditions of one key, both standing at the clock
 unfoldable pub clash : Condition → Condition → ℕ → Bool

@@ -14,7 +14,13 @@ use Rattle.conditions.specs.Standing.{placeStands}
 
 -- a place that holds nothing
 abbrev pub empty : Condition
-empty = record { at = 0; key = record { node = 0; interface = 0; kind = 0; present = 0 }; refresh = 0; linkdown = 0 }
+empty =
+    record {
+      at = 0;
+      key = record { node = 0; interface = 0; global = 0; kind = 0; present = 0; carrier = 0 };
+      refresh = 0;
+      linkdown = 0;
+    }
 
 -- no condition: what a session starts with
 abbrev pub noConditions : Conditions

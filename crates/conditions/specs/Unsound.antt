@@ -14,10 +14,11 @@ placeAt cs (suc zero) = cs .second
 placeAt cs (suc (suc zero)) = cs .third
 placeAt cs (suc (suc (suc i))) = cs .fourth
 
--- type 1 or 2, the marks for an IF_ID and for L 0 or 1, refresh 1 to 20, dated no later than the clock
+-- type 1 or 2, the marks for an IF_ID, for a Global_ID and for L 0 or 1, refresh 1 to 20, dated no later than the clock
 pub data OutOfRange (c : Condition) (clock : ℕ) : Type 0 where
   kindAbove : 2 < c .key .kind → OutOfRange c clock
   presentMark : 1 < c .key .present → OutOfRange c clock
+  carrierMark : 1 < c .key .carrier → OutOfRange c clock
   linkFlag : 1 < c .linkdown → OutOfRange c clock
   noRefresh : c .refresh ≡ 0 → OutOfRange c clock
   refreshAbove : 20 < c .refresh → OutOfRange c clock

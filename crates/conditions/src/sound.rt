@@ -8,22 +8,20 @@ use crate::standing::is_fresh;
 use rules::Key;
 ghost use mathlib.Core.Path.{_≡_};
 ghost use mathlib.Core.Bool.{_&&_, _||_};
-ghost use lib.Dec.{eqb};
+ghost use lib.Dec.{eqb, ltb, leb};
 ghost use Rattle.conditions.specs.Soundness.{fieldsSound, placeSound, conditionsSound};
-ghost use Rattle.conditions.specs.Digests.{blankOf, keyDigest, digestOf, alike};
+ghost use Rattle.conditions.specs.Digests.{blankOf, markedBy, tagWith, keyDigest, digestOf, alike};
 
-fn fields_sound(kind: u8, present: u8, linkdown: u8, refresh: u8, at: u64, clock: u64) -> bool
-    ensures { λ r. ⌜ r ≡ fieldsSound kind present linkdown refresh at clock ⌝ }
+// Three marks, 0 or 1 each, by one comparison: 26 asks it of every filled place.
+fn marks_sound(present: u8, carrier: u8, linkdown: u8) -> bool
+    ensures { λ r. ⌜ r ≡ (ltb present 2 && ltb carrier 2 && ltb linkdown 2) ⌝ }
 {
-    if 2 < kind {
-        return false;
-    }
-    if 2 <= present {
-        return false;
-    }
-    if 2 <= linkdown {
-        return false;
-    }
+    (present / 2) as u16 + (carrier / 2) as u16 + (linkdown / 2) as u16 == 0
+}
+
+fn times_sound(refresh: u8, at: u64, clock: u64) -> bool
+    ensures { λ r. ⌜ r ≡ (leb 1 refresh && leb refresh 20 && leb at clock) ⌝ }
+{
     if refresh < 1 {
         return false;
     }
@@ -31,6 +29,26 @@ fn fields_sound(kind: u8, present: u8, linkdown: u8, refresh: u8, at: u64, clock
         return false;
     }
     at <= clock
+}
+
+fn fields_sound(
+    kind: u8,
+    present: u8,
+    carrier: u8,
+    linkdown: u8,
+    refresh: u8,
+    at: u64,
+    clock: u64,
+) -> bool
+    ensures { λ r. ⌜ r ≡ fieldsSound kind present carrier linkdown refresh at clock ⌝ }
+{
+    if 2 < kind {
+        return false;
+    }
+    if marks_sound(present, carrier, linkdown) {
+        return times_sound(refresh, at, clock);
+    }
+    false
 }
 
 fn place_sound(c: Condition, clock: u64) -> bool
@@ -42,6 +60,7 @@ fn place_sound(c: Condition, clock: u64) -> bool
     fields_sound(
         c.key.kind,
         c.key.present,
+        c.key.carrier,
         c.linkdown,
         c.refresh,
         c.at,
@@ -50,7 +69,7 @@ fn place_sound(c: Condition, clock: u64) -> bool
 }
 
 // What is kept of a place once it has been looked at: whether its fields are sound, and, where its
-// condition stands, a number for its type and for whether it has an IF_ID, and the IF_ID as one word.
+// condition stands, its type, its two marks and its Global_ID in one number, and the IF_ID as one word.
 // The tag is 0 where nothing stands. Two numbers in place of a condition's fields: a place is done
 // with before the next one is loaded.
 struct Digest {
@@ -69,21 +88,32 @@ fn blank(sound: bool) -> Digest
     }
 }
 
+// A number that is there only where its mark is not 0.
+fn marked(mark: u8, number: u64) -> u64
+    ensures { λ r. ⌜ r ≡ markedBy mark number ⌝ }
+{
+    if mark == 0 {
+        return 0;
+    }
+    number
+}
+
+fn tag_of(kind: u8, present: u8, carrier: u8, global: u32) -> u64
+    ensures { λ r. ⌜ r ≡ tagWith kind present carrier global ⌝ }
+{
+    let head = 4 * kind as u64 + 2 * present as u64 + carrier as u64;
+    head * 4294967296 + marked(carrier, global as u64)
+}
+
 fn key_digest(k: Key) -> Digest
     ensures { λ r. ⌜ r ≡ keyDigest k ⌝ }
 {
-    let doubled = 2 * k.kind as u64;
-    if k.present == 0 {
-        return Digest {
-            sound: true,
-            tag: doubled,
-            word: 0,
-        };
-    }
+    let tag = tag_of(k.kind, k.present, k.carrier, k.global);
+    let word = marked(k.present, k.interface as u64 * 4294967296 + k.node as u64);
     Digest {
         sound: true,
-        tag: doubled + 1,
-        word: k.interface as u64 * 4294967296 + k.node as u64,
+        tag: tag,
+        word: word,
     }
 }
 
@@ -96,6 +126,7 @@ fn digest_of(c: Condition, clock: u64) -> Digest
     if fields_sound(
         c.key.kind,
         c.key.present,
+        c.key.carrier,
         c.linkdown,
         c.refresh,
         c.at,

@@ -19,8 +19,10 @@ fn empty_place() -> Condition
     let key = Key {
         node: 0,
         interface: 0,
+        global: 0,
         kind: 0,
         present: 0,
+        carrier: 0,
     };
     Condition {
         at: 0,

@@ -5,7 +5,9 @@ use mathlib.Core.Bool.{Bool, cond, not, _&&_, _||_}
 use lib.Dec.{eqb}
 use Rattle.fault.specs.declared.Fault.{Fault}
 use Rattle.fault.specs.declared.IfId.{IfId}
-use Rattle.fault.specs.declared.IfId.the-variants.{Absent, Present}
+use Rattle.fault.specs.declared.IfId.the-variants.{Absent as NoIfId, Present as AnIfId}
+use Rattle.fault.specs.declared.GlobalId.{GlobalId}
+use Rattle.fault.specs.declared.GlobalId.the-variants.{Absent as NoGlobalId, Present as AGlobalId}
 use Rattle.rules.specs.States.{moved}
 use Rattle.rules.specs.declared.Settings.{Settings}
 use Rattle.rules.specs.declared.Key.{Key}
@@ -13,19 +15,58 @@ use Rattle.rules.specs.declared.State.{State}
 use Rattle.rules.specs.declared.Input.{Input}
 use Rattle.rules.specs.declared.Input.the-variants.{LinkDown, LockReport}
 
--- the key of a message: its type and its IF_ID
-abbrev pub keyWith : ℕ → IfId → Key
-keyWith kind Absent = record { node = 0; interface = 0; kind = kind; present = 0 }
-keyWith kind (Present node interface) = record { node = node; interface = interface; kind = kind; present = 1 }
+-- an IF_ID in numbers: a mark that is 1 where there is one, and its Node and Interface, 0 where there is none
+abbrev pub ifIdMark : IfId → ℕ
+ifIdMark NoIfId = 0
+ifIdMark (AnIfId node interface) = 1
 
+abbrev pub nodeOf : IfId → ℕ
+nodeOf NoIfId = 0
+nodeOf (AnIfId node interface) = node
+
+abbrev pub interfaceOf : IfId → ℕ
+interfaceOf NoIfId = 0
+interfaceOf (AnIfId node interface) = interface
+
+-- a Global_ID likewise
+abbrev pub globalIdMark : GlobalId → ℕ
+globalIdMark NoGlobalId = 0
+globalIdMark (AGlobalId global) = 1
+
+abbrev pub globalOf : GlobalId → ℕ
+globalOf NoGlobalId = 0
+globalOf (AGlobalId global) = global
+
+-- the key of this type and IF_ID, with the number and the mark of a Global_ID
+abbrev pub keyAt : ℕ → IfId → ℕ → ℕ → Key
+keyAt kind interface global carrier =
+    record {
+      node = nodeOf interface;
+      interface = interfaceOf interface;
+      global = global;
+      kind = kind;
+      present = ifIdMark interface;
+      carrier = carrier;
+    }
+
+abbrev pub keyWith : ℕ → IfId → GlobalId → Key
+keyWith kind interface id = keyAt kind interface (globalOf id) (globalIdMark id)
+
+-- the key of a message
 abbrev pub keyOf : Fault → Key
-keyOf f = keyWith (f .kind) (f .interface)
+keyOf f = keyWith (f .kind) (f .interface) (f .global)
 
--- one key: the same type, and IF_IDs that are both absent or equal
+-- IF_IDs that are both absent or equal
+unfoldable pub sameIfId : Key → Key → Bool
+sameIfId a b = eqb (a .present) (b .present) && (eqb (a .present) 0 || eqb (a .node) (b .node) && eqb (a .interface) (b .interface))
+
+-- Global_IDs that are both absent or equal
+unfoldable pub sameGlobalId : Key → Key → Bool
+sameGlobalId a b = eqb (a .carrier) (b .carrier) && (eqb (a .carrier) 0 || eqb (a .global) (b .global))
+
+-- one key: the same type, the same IF_ID and the same Global_ID
 unfoldable pub sameKey : Key → Key → Bool
-sameKey a b =
-    eqb (a .kind) (b .kind) && eqb (a .present) (b .present)
-    && (eqb (a .present) 0 || eqb (a .node) (b .node) && eqb (a .interface) (b .interface))
+sameKey a b = eqb (a .kind) (b .kind) && sameIfId a b && sameGlobalId a b
 
 -- a session follows AIS with L set if it follows link-down, and LKR if it follows lock
 unfoldable pub follows : Settings → ℕ → Bool → Bool

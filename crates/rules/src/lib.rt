@@ -68,13 +68,16 @@ pub struct Settings {
     pub followlock: u8,
 }
 
-// What tells one condition from another: type 1 AIS or 2 LKR, and an IF_ID, present 1 or absent 0.
+// What tells one condition from another: type 1 AIS or 2 LKR, an IF_ID, and a Global_ID. `present` is 1
+// where there is an IF_ID, `carrier` 1 where there is a Global_ID, each 0 where there is none.
 #[repr(C)]
 pub struct Key {
     pub node: u32,
     pub interface: u32,
+    pub global: u32,
     pub kind: u8,
     pub present: u8,
+    pub carrier: u8,
 }
 
 // What a message is to the session of its label.

@@ -4,7 +4,7 @@ use borrow.Author.Needs.{needs}
 use Rattle.rules.proofs.Bools.{or-cases}
 use Rattle.conditions.proofs.Taken.{says-sound}
 use Rattle.conditions.proofs.Digests.{refused, sound, unsound, apart, clashing, neither}
-use Rattle.conditions.proofs.Held.{nodes-held}
+use Rattle.conditions.proofs.Held.{keys-held}
 use Rattle.conditions.proofs.sound.several_sound.Statement.{statement}
 use Rattle.conditions.proofs.sound.several_sound.Tie as tie
 
@@ -18,7 +18,7 @@ returns-3 : tie.Need-returns-3
 returns-3 c =
     let two = c .before .before .before .before in
     let one = two .before .before .before .before in
-    let held = nodes-held _ _ (one .before .before .good .0) in
+    let held = keys-held _ _ (one .before .before .good .0) in
     refused _ _ (λ s. clashing _ _ _ (held .first) (held .second) (one .digest-of .ensures) (two .digest-of2 .ensures) (sym (c .before .are-alike .ensures) ∙ c .if3 .taken) (s .first) (s .second) (s .apart12))
 
 returns-4 : tie.Need-returns-4
@@ -29,7 +29,7 @@ returns-5 c =
     let three = c .before .before .before .before in
     let two = three .before .before .before .before .before .before in
     let one = two .before .before .before .before in
-    let held = nodes-held _ _ (one .before .before .good .0) in
+    let held = keys-held _ _ (one .before .before .good .0) in
     refused _ _
     (λ s. ⊎-elim (λ z. clashing _ _ _ (held .first) (held .third) (one .digest-of .ensures) (three .digest-of3 .ensures) z (s .first) (s .third) (s .apart13))
     (λ z. clashing _ _ _ (held .second) (held .third) (two .digest-of2 .ensures) (three .digest-of3 .ensures) z (s .second) (s .third) (s .apart23))
@@ -44,7 +44,7 @@ returns-7 c =
     let three = four .before .before .before .before .before .before in
     let two = three .before .before .before .before .before .before in
     let one = two .before .before .before .before in
-    let held = nodes-held _ _ (one .before .before .good .0) in
+    let held = keys-held _ _ (one .before .before .good .0) in
     refused _ _
     (λ s. ⊎-elim (λ z. clashing _ _ _ (held .first) (held .fourth) (one .digest-of .ensures) (four .digest-of4 .ensures) z (s .first) (s .fourth) (s .apart14))
     (λ z. clashing _ _ _ (held .second) (held .fourth) (two .digest-of2 .ensures) (four .digest-of4 .ensures) z (s .second) (s .fourth) (s .apart24))
@@ -56,7 +56,7 @@ returns-8 c =
     let three = four .before .before .before .before .before .before in
     let two = three .before .before .before .before .before .before in
     let one = two .before .before .before .before in
-    let held = nodes-held _ _ (one .before .before .good .0) in
+    let held = keys-held _ _ (one .before .before .good .0) in
     refused _ _ (λ s. clashing _ _ _ (held .third) (held .fourth) (three .digest-of3 .ensures) (four .digest-of4 .ensures) (sym (c .before .are-alike2 .ensures) ∙ c .if8 .taken) (s .third) (s .fourth) (s .apart34))
 
 returns-9 : tie.Need-returns-9
@@ -65,7 +65,7 @@ returns-9 c =
     let three = four .before .before .before .before .before .before in
     let two = three .before .before .before .before .before .before in
     let one = two .before .before .before .before in
-    let held = nodes-held _ _ (one .before .before .good .0) in
+    let held = keys-held _ _ (one .before .before .good .0) in
     let p1 = sound _ _ (one .digest-of .ensures) (two .before .before .if1 .left) in
     let p2 = sound _ _ (two .digest-of2 .ensures) (three .before .before .before .before .if2 .left) in
     let p3 = sound _ _ (three .digest-of3 .ensures) (four .before .before .before .before .if4 .left) in
