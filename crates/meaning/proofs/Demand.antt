@@ -5,7 +5,7 @@ use native.Mathlib.Omega.{arith}
 use mathlib.Core.Path.{_≡_, refl, sym, ap, _∙_, subst}
 use mathlib.Core.Bool.{Bool, true, cond, not}
 use mathlib.Core.Option.{Option, none, some}
-use mathlib.Core.List.{List, [], _∷_, List·Memᴰ, List·Memᴰ·head, List·Memᴰ·tail}
+use mathlib.Core.List.{List, [], _∷_, _++_, List·Memᴰ, List·Memᴰ·head, List·Memᴰ·tail}
 use lib.ListN.{length}
 use borrow.Author.Tests.{eq-eqb, not-true}
 use Rattle.octets.proofs.Chain.{and-both}
@@ -105,6 +105,12 @@ pub good-play : (w : World) (cs : List Call) → Good w → Good (play w cs)
 unfolding play
 good-play w [] G = G
 good-play w (c ∷ cs) G = good-play (step w c) cs (good-step w c G)
+
+-- one call more at the end of a list
+pub play-last : (w : World) (cs : List Call) (c : Call) → play w (cs ++ c ∷ []) ≡ step (play w cs) c
+unfolding play
+play-last w [] c = refl
+play-last w (d ∷ cs) c = play-last (step w d) cs c
 
 pub good-begin : (row : List Session) → length row ≡ 64 → Good (begin row)
 unfolding begin Right Never

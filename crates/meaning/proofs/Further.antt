@@ -20,6 +20,7 @@ use Rattle.meaning.proofs.Places.{kept-count}
 use Rattle.meaning.proofs.Sim.{Fit, fit-record}
 use Rattle.meaning.proofs.Demand.{InStep, good-play, good-begin}
 use Rattle.meaning.proofs.OnlyTicks.{twice-locked, unlocked-again}
+use Rattle.meaning.proofs.OtherKeys.{Kept, kept-by-others}
 use Rattle.meaning.proofs.TakenPlaces.{opens-lowest, closes-place}
 
 -- the four places of a record keep a story's conditions
@@ -34,7 +35,7 @@ unfolding next done actDone
 report-leaves t l = split (isAccepted (answer t (On l ReportOn))) (λ e. rw e) (λ e. rw e)
 
 pub further : (row : List Session) → length row ≡ 64 → (cs : List Call) → Further row cs
-unfolding pastOf tableAfter
+unfolding pastOf tableAfter Kept
 further row e cs =
     let w = play (begin row) cs in
     let G = good-play (begin row) cs (good-begin row e) in
@@ -44,5 +45,6 @@ further row e cs =
       four-conditions = most-four (w .past) (w .table) (G .in-step);
       lowest-place = opens-lowest (w .past) (w .table) (G .in-step);
       place-again = closes-place (w .past) (w .table) (G .in-step);
+      other-key = λ l t m f g s o is n. kept-by-others l t m f g s is n row cs o;
       report-alters-nothing = report-leaves (w .table);
     }

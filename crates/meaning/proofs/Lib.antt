@@ -16,6 +16,7 @@ pub mod Accounted
 pub mod Demand
 pub mod OnlyTicks
 pub mod TakenPlaces
+pub mod OtherKeys
 pub mod Further
 pub mod HoldDown
 pub mod HeldAnswers

@@ -24,7 +24,7 @@ use Rattle.rules.specs.Conditions.{keyOf, sameKey, follows}
 use Rattle.rules.specs.Lists.{any, only, once}
 use Rattle.rules.proofs.Bools.{split, same-test, both-true, or-left, or-right, no-way, refuted, forced, true-false}
 use Rattle.rules.proofs.Lists.{any-at, any-who, any-same, swap-same, once-cons, once-head, once-rest, same-length, any-only, once-only}
-use Rattle.rules.proofs.SameKeys.{keys-alike, same-sym, same-refl, same-trans, key-kind}
+use Rattle.rules.proofs.SameKeys.{keys-alike, same-sym, same-refl, same-trans}
 use Rattle.conditions.specs.declared.Condition.{Condition}
 use Rattle.conditions.specs.declared.Conditions.{Conditions}
 use Rattle.conditions.specs.Standing.{filled, fresh, placeStands, countAt, followedAt, anyFollowed}
@@ -531,7 +531,7 @@ module _ {now : ℕ} {cs : Conditions} {s : Story} (xs : List Condition) (e : pl
 module _ (f : Fault) (t : ℕ) (kind : f .kind ≡ 0 → ⊥) where
   -- its type is not 0
   new-filled : filled (conditionOf f t) ≡ true
-  new-filled = rw (key-kind (f .kind) (f .interface), ne-eqb (f .kind) 0 kind)
+  new-filled = rw (ne-eqb (f .kind) 0 kind)
 
   -- it stands for its lifetime from the reading
   new-stands : (u : ℕ) → placeStands (conditionOf f t) u ≡ within t (lifetime (f .refresh)) u
@@ -541,7 +541,7 @@ module _ (f : Fault) (t : ℕ) (kind : f .kind ≡ 0 → ⊥) where
 -- it is followed as the message is
 new-follows : (g : Settings) (f : Fault) (t : ℕ)
     → follows g (conditionOf f t .key .kind) (eqb (conditionOf f t .linkdown) 1) ≡ follows g (f .kind) (f .linkdown)
-new-follows g f t = λ i. follows g (key-kind (f .kind) (f .interface) i) (bit-back (f .linkdown) (bitOf (f .linkdown)) refl i)
+new-follows g f t = λ i. follows g (f .kind) (bit-back (f .linkdown) (bitOf (f .linkdown)) refl i)
 
 -- the test of a key that is forgotten
 module _ (u : ℕ) (k m : Key) where

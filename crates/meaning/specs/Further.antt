@@ -4,16 +4,21 @@ use Prim.Native.Nat.{ℕ, _≤_, _<_}
 use mathlib.Core.Path.{_≡_}
 use mathlib.Core.Bool.{true, false}
 use mathlib.Core.Option.{some}
-use mathlib.Core.List.{List, [], _∷_}
+use mathlib.Core.List.{List, [], _∷_, _++_}
 use lib.ListN.{getD}
+use Rattle.fault.specs.declared.Fault.{Fault}
+use Rattle.message.specs.declared.Message.the-variants.{FaultManagement}
+use Rattle.message.specs.Message.{messageOf}
 use Rattle.rules.specs.declared.Settings.{Settings}
 use Rattle.rules.specs.Times.{late}
-use Rattle.rules.specs.Calls.{Close, Lock, Unlock, ReportOn, Call, Tick, Open, On, Said, numberOnly}
+use Rattle.rules.specs.Conditions.{keyOf}
+use Rattle.rules.specs.OneKey.{OneCause}
+use Rattle.rules.specs.Calls.{Close, Lock, Unlock, Receive, ReportOn, Call, Tick, Open, On, Said, numberOnly}
 use Rattle.session.specs.declared.Session.{Session}
 use Rattle.table.specs.Places.{occupiedAt}
 use Rattle.table.specs.Table.{Table, answer, next}
 use Rattle.meaning.specs.Stories.{Story}
-use Rattle.meaning.specs.Standing.{locked, conditions}
+use Rattle.meaning.specs.Standing.{locked, stands, conditions}
 use Rattle.meaning.specs.Histories.{clockOf, story}
 use Rattle.meaning.specs.Worlds.{pastOf, tableAfter}
 
@@ -59,5 +64,10 @@ pub record Further (row : List Session) (cs : List Call) : Type 0 where
       → (p : ℕ) × TakesLowest (tableAfter row cs) (next (tableAfter row cs) (Open g u)) g p
   pub place-again : (l u : ℕ) → answer (tableAfter row cs) (On l (Close u)) .number ≡ 0
       → (p : ℕ) × GivesBack (tableAfter row cs) (next (tableAfter row cs) (On l (Close u))) l p
+  -- a fault message of another type, IF_ID or Global_ID, each absent or present, leaves a condition as it is at every clock: it ends none and
+  -- makes none of that key, R or not, accepted or refused
+  pub other-key : (l t : ℕ) (m : List ℕ) (f g : Fault) (s : Story) → story l (pastOf row cs) ≡ some s → messageOf m ≡ FaultManagement f
+      → (OneCause f g → ⊥) → (u : Story) × (story l (pastOf row (cs ++ On l (Receive m t) ∷ [])) ≡ some u)
+      × ((now : ℕ) → stands now u (keyOf g) ≡ stands now s (keyOf g))
   -- "report changes nothing"
   pub report-alters-nothing : (l : ℕ) → next (tableAfter row cs) (On l ReportOn) ≡ tableAfter row cs

@@ -9,7 +9,7 @@ use Rattle.table.specs.Table.{Table, answer, next, emptied}
 use Rattle.meaning.specs.Histories.{History, start, after}
 use Rattle.meaning.specs.Answers.{says}
 use Rattle.meaning.specs.Worlds.{World, step, play, begin, pastOf, Right}
-use Rattle.meaning.proofs.Demand.{demand3}
+use Rattle.meaning.proofs.Demand.{play-last, demand3}
 
 pub record Reached (h : History) (t : Table) : Type 0 where
   pub row : List Session
@@ -21,11 +21,6 @@ pub record Reached (h : History) (t : Table) : Type 0 where
 pub reached-start : (row : List Session) → length row ≡ 64 → Reached start (emptied row)
 unfolding play begin
 reached-start row e = record { row = row; rows = e; calls = []; played = refl }
-
-play-last : (w : World) (cs : List Call) (c : Call) → play w (cs ++ c ∷ []) ≡ step (play w cs) c
-unfolding play
-play-last w [] c = refl
-play-last w (d ∷ cs) c = play-last (step w d) cs c
 
 module _ {h : History} {t : Table} (r : Reached h t) (c : Call) where
   one-more : play (begin (r .row)) (r .calls ++ c ∷ []) ≡ record { table = next t c; past = after h c (answer t c) }
