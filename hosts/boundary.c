@@ -19,7 +19,7 @@ static void need(int holds, const char *what) {
 }
 
 static void check_version(void) {
-    need(KORVEZUL_VERSION == 0x020000, "version of the header");
+    need(KORVEZUL_VERSION == 0x030000, "version of the header");
     need(korvezul_version() == KORVEZUL_VERSION, "version of the library");
     printf("version %d.%d.%d: header and library agree\n", KORVEZUL_VERSION_MAJOR, KORVEZUL_VERSION_MINOR,
            KORVEZUL_VERSION_PATCH);
@@ -61,17 +61,18 @@ static void check_heard(struct korvezul_packet p) {
 static void check_taken(struct korvezul_fault f) {
     const struct korvezul_condition *c = row[0].conditions;
     uint8_t m[KORVEZUL_FAULT_OCTETS];
-    need(korvezul_write_fault_message(m, 19, f) == 0, "LKR");
-    need(korvezul_receive(row, KORVEZUL_RECORDS, &head, told.label, m, 19, 0x010205) == 0, "taken LKR");
+    need(korvezul_write_fault_message(m, sizeof m, f) == 0, "LKR");
+    need(korvezul_receive(row, KORVEZUL_RECORDS, &head, told.label, m, sizeof m, 0x010205) == 0, "taken LKR");
     need(c[0].at == 0x010205 && c[0].refresh == 20 && c[0].link_down == 1, "condition");
     need(c[0].key.node == f.node && c[0].key.interface_number == f.interface_number, "IF_ID of a key");
+    need(c[0].key.global == f.global && c[0].key.carrier == 1, "Global_ID of a key");
     need(c[0].key.kind == 2 && c[0].key.present == 1, "type and mark of a key");
     need(c[1].key.kind == 0 && c[3].key.kind == 0, "empty conditions");
 }
 
 static void check_layout(void) {
     struct korvezul_packet p = {.my = 0x61626364, .diagnostic = 9, .state = 1, .multiplier = 5, .poll = 1};
-    struct korvezul_fault f = {0x71727374, 0x75767778, 0, 2, 1, 0, 20, 1, 0};
+    struct korvezul_fault f = {0x71727374, 0x75767778, 0x797a7b7c, 2, 1, 0, 20, 1, 1};
     uint8_t m[KORVEZUL_CC_OCTETS];
     check_opened();
     check_heard(p);

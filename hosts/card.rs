@@ -132,19 +132,22 @@ fn check_layout() {
     let lkr = Fault {
         node: 0x71727374,
         interface: 0x75767778,
+        global: 0x797a7b7c,
         kind: 2,
         link_down: 1,
+        removed: 0,
         refresh: 20,
         has_if_id: 1,
-        ..Fault::default()
+        has_global_id: 1,
     };
     let mut t = Table::new();
     let mut m = [0; 28];
     assert_eq!((t.empty(), t.open(settings, 0x010203)), (0, 0));
     assert_eq!((write_cc_message(&mut m, heard), t.receive(settings.label, &m, 0x010204)), (0, 0));
-    assert_eq!((write_fault_message(&mut m, lkr), t.receive(settings.label, &m[..19], 0x010205)), (0, 0));
+    assert_eq!((write_fault_message(&mut m, lkr), t.receive(settings.label, &m[..25], 0x010205)), (0, 0));
     assert_eq!((write_cc_message(&mut m, crossed), t.receive(settings.label, &m, 0x010206)), (0, 0));
-    let key = Key { node: lkr.node, interface: lkr.interface, kind: 2, present: 1 };
+    let key =
+        Key { node: lkr.node, interface: lkr.interface, global: lkr.global, kind: 2, present: 1, carrier: 1 };
     let mut conditions = [Condition::default(); 4];
     conditions[0] = Condition { at: 0x010205, key, refresh: 20, link_down: 1 };
     let peer = Peer { remote: heard.my, multiplier: 5, diagnostic: 9, owed: 1 };

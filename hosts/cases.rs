@@ -246,6 +246,8 @@ fn spoil_condition(c: &mut Condition, field: &str, value: &str) -> Shown {
         "present" => c.key.present = number_of(value)?,
         "node" => c.key.node = number_of(value)?,
         "interface" => c.key.interface = number_of(value)?,
+        "carrier" => c.key.carrier = number_of(value)?,
+        "global" => c.key.global = number_of(value)?,
         "refresh" => c.refresh = number_of(value)?,
         "flag" => c.link_down = number_of(value)?,
         "date" => c.at = number_of(value)?,
@@ -412,9 +414,11 @@ fn with_settings(t: &Table, w: &mut Words) -> Result<Table, String> {
 
 /// A condition is put into a place of the record.
 fn put_condition(t: &mut Table, place: usize, at: u64, w: &mut Words) -> Shown {
-    let (kind, present) = (w.number()?, w.number()?);
-    let key = Key { node: w.number()?, interface: 4, kind, present };
-    t.row[0].conditions[place] = Condition { at, key, refresh: w.number()?, link_down: w.number()? };
+    let (kind, present, node) = (w.number()?, w.number()?, w.number()?);
+    let (refresh, link_down) = (w.number()?, w.number()?);
+    let (carrier, global) = (w.number_or_0()?, w.number_or_0()?);
+    let key = Key { node, interface: 4, global, kind, present, carrier };
+    t.row[0].conditions[place] = Condition { at, key, refresh, link_down };
     w.end()?;
     Ok(None)
 }

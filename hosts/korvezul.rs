@@ -4,8 +4,8 @@
 use std::mem::{align_of, offset_of, size_of};
 
 pub const RECORDS: usize = 64;
-/// The version of the header that these declarations follow, 2.0.0.
-pub const VERSION: u32 = 0x020000;
+/// The version of the header that these declarations follow, 3.0.0.
+pub const VERSION: u32 = 0x030000;
 
 #[repr(C)]
 #[derive(Clone, Copy, Debug, Default, PartialEq)]
@@ -33,8 +33,10 @@ pub struct Settings {
 pub struct Key {
     pub node: u32,
     pub interface: u32,
+    pub global: u32,
     pub kind: u8,
     pub present: u8,
+    pub carrier: u8,
 }
 
 #[repr(C)]
@@ -143,9 +145,9 @@ pub struct FaultRead {
 
 // The layout that the library was compiled with.
 const _: () = {
-    assert!(size_of::<Session>() == 176 && align_of::<Session>() == 8 && offset_of!(Session, settings) == 112);
-    assert!(offset_of!(Session, peer) == 160 && offset_of!(Session, state) == 168 && size_of::<Settings>() == 48);
-    assert!(size_of::<Condition>() == 24 && offset_of!(Condition, refresh) == 20 && size_of::<Head>() == 16);
+    assert!(size_of::<Session>() == 208 && align_of::<Session>() == 8 && offset_of!(Session, settings) == 144);
+    assert!(offset_of!(Session, peer) == 192 && offset_of!(Session, state) == 200 && size_of::<Settings>() == 48);
+    assert!(size_of::<Condition>() == 32 && offset_of!(Condition, refresh) == 24 && size_of::<Head>() == 16);
     assert!(size_of::<ReportAnswer>() == 12 && size_of::<Packet>() == 28 && size_of::<Fault>() == 20);
     assert!(size_of::<CcRead>() == 40 && size_of::<CvRead>() == 64 && size_of::<FaultRead>() == 32);
     assert!(offset_of!(CcRead, answer) == 8 && offset_of!(CcRead, packet) == 12 && offset_of!(FaultRead, fault) == 12);

@@ -29,9 +29,9 @@
 extern "C" {
 #endif
 
-/* The version of this header: 0x020000 is 2.0.0. korvezul_version() is the archive's; another major
+/* The version of this header: 0x030000 is 3.0.0. korvezul_version() is the archive's; another major
  * number is another layout or another meaning, and the two must agree in it. */
-#define KORVEZUL_VERSION_MAJOR 2
+#define KORVEZUL_VERSION_MAJOR 3
 #define KORVEZUL_VERSION_MINOR 0
 #define KORVEZUL_VERSION_PATCH 0
 #define KORVEZUL_VERSION \
@@ -93,12 +93,15 @@ struct korvezul_settings {
 };
 
 /* The record of a session. It is the host's memory and the library's content: read a session with
- * korvezul_report, and copy or keep rows and heads as they are. */
+ * korvezul_report, and copy or keep rows and heads as they are. A condition is told by its key: type,
+ * IF_ID (`present` 1 where there is one) and Global_ID (`carrier` 1 where there is one). */
 struct korvezul_key {
     uint32_t node;
     uint32_t interface_number;
+    uint32_t global;
     uint8_t kind;
     uint8_t present;
+    uint8_t carrier;
 };
 
 struct korvezul_condition {
@@ -296,19 +299,21 @@ KORVEZUL_PLACE(settings, expected, 28);
 KORVEZUL_PLACE(settings, follow_link, 44);
 KORVEZUL_PLACE(settings, follow_lock, 45);
 
-KORVEZUL_SIZE(key, 12);
+KORVEZUL_SIZE(key, 16);
 KORVEZUL_ALIGNED(key, 4);
 KORVEZUL_PLACE(key, node, 0);
 KORVEZUL_PLACE(key, interface_number, 4);
-KORVEZUL_PLACE(key, kind, 8);
-KORVEZUL_PLACE(key, present, 9);
+KORVEZUL_PLACE(key, global, 8);
+KORVEZUL_PLACE(key, kind, 12);
+KORVEZUL_PLACE(key, present, 13);
+KORVEZUL_PLACE(key, carrier, 14);
 
-KORVEZUL_SIZE(condition, 24);
+KORVEZUL_SIZE(condition, 32);
 KORVEZUL_ALIGNED(condition, 8);
 KORVEZUL_PLACE(condition, at, 0);
 KORVEZUL_PLACE(condition, key, 8);
-KORVEZUL_PLACE(condition, refresh, 20);
-KORVEZUL_PLACE(condition, link_down, 21);
+KORVEZUL_PLACE(condition, refresh, 24);
+KORVEZUL_PLACE(condition, link_down, 25);
 
 KORVEZUL_SIZE(peer, 8);
 KORVEZUL_ALIGNED(peer, 4);
@@ -317,15 +322,15 @@ KORVEZUL_PLACE(peer, multiplier, 4);
 KORVEZUL_PLACE(peer, diagnostic, 5);
 KORVEZUL_PLACE(peer, owed, 6);
 
-KORVEZUL_SIZE(session, 176);
+KORVEZUL_SIZE(session, 208);
 KORVEZUL_ALIGNED(session, 8);
 KORVEZUL_PLACE(session, timed, 0);
 KORVEZUL_PLACE(session, crossed, 8);
 KORVEZUL_PLACE(session, conditions, 16);
-KORVEZUL_PLACE(session, settings, 112);
-KORVEZUL_PLACE(session, peer, 160);
-KORVEZUL_PLACE(session, state, 168);
-KORVEZUL_PLACE(session, crossing, 169);
+KORVEZUL_PLACE(session, settings, 144);
+KORVEZUL_PLACE(session, peer, 192);
+KORVEZUL_PLACE(session, state, 200);
+KORVEZUL_PLACE(session, crossing, 201);
 
 KORVEZUL_SIZE(head, 16);
 KORVEZUL_ALIGNED(head, 8);

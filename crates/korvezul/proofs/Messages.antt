@@ -33,14 +33,14 @@ use Rattle.fault.specs.Octets.{faultOctets, fieldRefusal}
 use Rattle.fault.specs.Plain.{Sized as FaultSized}
 use Rattle.fault.proofs.RoundTrip as fault
 use Rattle.fault.proofs.Earliest as fault-octets
-use Rattle.rules.specs.Conditions.{keyWith}
+use Rattle.rules.specs.Conditions.{ifIdMark, nodeOf, interfaceOf, globalIdMark, globalOf}
 use Rattle.rules.proofs.Bools.{split}
 use Rattle.korvezul.specs.declared.fields.PacketFields.{PacketFields}
 use Rattle.korvezul.specs.declared.fields.FaultFields.{FaultFields}
 use Rattle.korvezul.specs.declared.readers.CcRead.{CcRead}
 use Rattle.korvezul.specs.declared.readers.CvRead.{CvRead}
 use Rattle.korvezul.specs.declared.readers.FaultRead.{FaultRead}
-use Rattle.korvezul.specs.Fields.{packetFields, packetFrom, packetMarks, faultFields, faultFrom, globalFields, ifIdFrom, globalIdFrom, markedRefusal, faultMarks}
+use Rattle.korvezul.specs.Fields.{packetFields, packetFrom, packetMarks, faultFields, faultFrom, ifIdFrom, globalIdFrom, markedRefusal, faultMarks}
 use Rattle.korvezul.specs.Messages.{ccRead, cvRead, faultRead, ccWriteRefusal, cvWriteRefusal, faultWriteRefusal}
 
 -- a packet in numbers, and back
@@ -99,18 +99,18 @@ cv-there-and-back f id part pad s t e =
     cv-accepted (cvOctets (packetFrom f) id ++ pad) part _ (cv.read-written (packetFrom f) id pad s t (o .1))
     ∙ ap {B = CvRead} (λ (g : PacketFields). record { place = 44; answer = 0; part = part; packet = g; mep = id }) (fields-back f (o .0))
 
-if-id-back : (k : ℕ) (i : IfId) → ifIdFrom (keyWith k i .present) (keyWith k i .node) (keyWith k i .interface) ≡ i
-if-id-back k NoIfId = refl
-if-id-back k (AnIfId n m) = refl
+if-id-back : (i : IfId) → ifIdFrom (ifIdMark i) (nodeOf i) (interfaceOf i) ≡ i
+if-id-back NoIfId = refl
+if-id-back (AnIfId n m) = refl
 
-global-id-back : (g : GlobalId) → globalIdFrom (globalFields g .present) (globalFields g .global) ≡ g
+global-id-back : (g : GlobalId) → globalIdFrom (globalIdMark g) (globalOf g) ≡ g
 global-id-back NoGlobalId = refl
 global-id-back (AGlobalId n) = refl
 
 -- a fault message in numbers, and back
 pub fault-back : (f : Fault) → faultFrom (faultFields f) ≡ f
 fault-back f =
-    rw (bit-back (f .linkdown) (bitOf (f .linkdown)) refl, bit-back (f .removed) (bitOf (f .removed)) refl, if-id-back (f .kind) (f .interface), global-id-back (f .global))
+    rw (bit-back (f .linkdown) (bitOf (f .linkdown)) refl, bit-back (f .removed) (bitOf (f .removed)) refl, if-id-back (f .interface), global-id-back (f .global))
 
 -- a mark and a number that are not refused: the mark is 0 or 1, and behind 0 the number is 0
 pub record Marked (mark number : ℕ) : Type 0 where
@@ -151,25 +151,25 @@ marks-say f e =
     }
 
 -- an IF_ID and a Global_ID that are not refused, as the message has them and back
-if-id-again : (k present node interface : ℕ) → Marked present node → Marked present interface
-    → keyWith k (ifIdFrom present node interface) ≡ record { node = node; interface = interface; kind = k; present = present }
-if-id-again k zero node interface m n = rw (m .nothing refl, n .nothing refl)
-if-id-again k (suc zero) node interface m n = refl
-if-id-again k (suc (suc present)) node interface m n = absurd (omega (arith, m .bit))
+if-id-again : (mark node interface : ℕ) → Marked mark node → Marked mark interface
+    → (ifIdMark (ifIdFrom mark node interface) ≡ mark) × (nodeOf (ifIdFrom mark node interface) ≡ node) × (interfaceOf (ifIdFrom mark node interface) ≡ interface)
+if-id-again zero node interface m n = (refl, sym (m .nothing refl), sym (n .nothing refl))
+if-id-again (suc zero) node interface m n = (refl, refl, refl)
+if-id-again (suc (suc mark)) node interface m n = absurd (omega (arith, m .bit))
 
-global-id-again : (present global : ℕ) → Marked present global → globalFields (globalIdFrom present global) ≡ record { present = present; global = global }
-global-id-again zero global m = rw (m .nothing refl)
-global-id-again (suc zero) global m = refl
-global-id-again (suc (suc present)) global m = absurd (omega (arith, m .bit))
+global-id-again : (mark global : ℕ) → Marked mark global
+    → (globalIdMark (globalIdFrom mark global) ≡ mark) × (globalOf (globalIdFrom mark global) ≡ global)
+global-id-again zero global m = (refl, sym (m .nothing refl))
+global-id-again (suc zero) global m = (refl, refl)
+global-id-again (suc (suc mark)) global m = absurd (omega (arith, m .bit))
 
 -- fields that are not refused for a mark, as a fault message and back
 pub fault-fields-back : (f : FaultFields) → faultMarks f ≡ 0 → faultFields (faultFrom f) ≡ f
 fault-fields-back f e =
     let m = marks-say f e in
-    let node = m .node in
-    let interface = m .interface in
-    let global = m .global in
-    rw (bit-again (f .linkdown) (m .linkdown), bit-again (f .removed) (m .removed), if-id-again, global-id-again)
+    let i = if-id-again (f .ifid) (f .node) (f .interface) (m .node) (m .interface) in
+    let g = global-id-again (f .globalid) (f .global) (m .global) in
+    rw (bit-again (f .linkdown) (m .linkdown), bit-again (f .removed) (m .removed), i .0, i .1, i .2, g .0, g .1)
 
 -- a written fault message ends where its own total has it
 written-end : (f : Fault) (i : IfId) (g : GlobalId) (pad : List ℕ) → f .interface ≡ i → f .global ≡ g

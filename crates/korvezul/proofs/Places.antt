@@ -43,19 +43,19 @@ mep-id-laid = record { octets = refl; aligned = refl; fields = (refl, (refl, (re
 pub settings-laid : Laid settings 48 4 (0 ∷ 4 ∷ 8 ∷ 12 ∷ 28 ∷ 44 ∷ 45 ∷ [])
 settings-laid = record { octets = refl; aligned = refl; fields = (refl, (refl, (refl, (refl, (refl, (refl, (refl, refl))))))) }
 
-pub key-laid : Laid key 12 4 (0 ∷ 4 ∷ 8 ∷ 9 ∷ [])
-key-laid = record { octets = refl; aligned = refl; fields = (refl, (refl, (refl, (refl, refl)))) }
+pub key-laid : Laid key 16 4 (0 ∷ 4 ∷ 8 ∷ 12 ∷ 13 ∷ 14 ∷ [])
+key-laid = record { octets = refl; aligned = refl; fields = (refl, (refl, (refl, (refl, (refl, (refl, refl)))))) }
 
-pub condition-laid : Laid condition 24 8 (0 ∷ 8 ∷ 20 ∷ 21 ∷ [])
+pub condition-laid : Laid condition 32 8 (0 ∷ 8 ∷ 24 ∷ 25 ∷ [])
 condition-laid = record { octets = refl; aligned = refl; fields = (refl, (refl, (refl, (refl, refl)))) }
 
-pub conditions-laid : Laid conditions 96 8 (0 ∷ 24 ∷ 48 ∷ 72 ∷ [])
+pub conditions-laid : Laid conditions 128 8 (0 ∷ 32 ∷ 64 ∷ 96 ∷ [])
 conditions-laid = record { octets = refl; aligned = refl; fields = (refl, (refl, (refl, (refl, refl)))) }
 
 pub peer-laid : Laid peer 8 4 (0 ∷ 4 ∷ 5 ∷ 6 ∷ [])
 peer-laid = record { octets = refl; aligned = refl; fields = (refl, (refl, (refl, (refl, refl)))) }
 
-pub session-laid : Laid session 176 8 (0 ∷ 8 ∷ 16 ∷ 112 ∷ 160 ∷ 168 ∷ 169 ∷ [])
+pub session-laid : Laid session 208 8 (0 ∷ 8 ∷ 16 ∷ 144 ∷ 192 ∷ 200 ∷ 201 ∷ [])
 session-laid = record { octets = refl; aligned = refl; fields = (refl, (refl, (refl, (refl, (refl, (refl, (refl, refl))))))) }
 
 pub head-laid : Laid head 16 8 (0 ∷ 8 ∷ [])

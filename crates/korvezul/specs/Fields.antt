@@ -13,7 +13,6 @@ use Rattle.fault.specs.declared.GlobalId.the-variants.{Absent as NoGlobalId, Pr
 use Rattle.rules.specs.Conditions.{keyOf}
 use Rattle.korvezul.specs.declared.fields.PacketFields.{PacketFields}
 use Rattle.korvezul.specs.declared.fields.FaultFields.{FaultFields}
-use Rattle.korvezul.specs.declared.fields.GlobalFields.{GlobalFields}
 
 abbrev pub packetFields : Packet → PacketFields
 packetFields p =
@@ -57,24 +56,19 @@ packetMarks f =
     (need (leb (f .independent) 1) 10
     (need (leb (f .demand) 1) 10 0)))
 
--- a Global_ID with its mark; an absent one is 0
-abbrev pub globalFields : GlobalId → GlobalFields
-globalFields NoGlobalId = record { present = 0; global = 0 }
-globalFields (AGlobalId global) = record { present = 1; global = global }
-
--- the IF_ID with its mark is that of the condition's key; an absent one is 0
+-- IF_ID and Global_ID with their marks are those of the condition's key; what is absent is 0
 abbrev pub faultFields : Fault → FaultFields
 faultFields f =
     record {
       node = keyOf f .node;
       interface = keyOf f .interface;
-      global = globalFields (f .global) .global;
+      global = keyOf f .global;
       kind = f .kind;
       linkdown = bitOf (f .linkdown);
       removed = bitOf (f .removed);
       refresh = f .refresh;
       ifid = keyOf f .present;
-      globalid = globalFields (f .global) .present;
+      globalid = keyOf f .carrier;
     }
 
 abbrev pub ifIdFrom : ℕ → ℕ → ℕ → IfId

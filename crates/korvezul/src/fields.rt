@@ -9,7 +9,7 @@ use octets::need;
 use octets::or_else;
 use octets::refuse_if;
 ghost use mathlib.Core.Path.{_≡_};
-ghost use Rattle.korvezul.specs.Fields.{packetFields, packetFrom, packetMarks, globalFields, faultFields, ifIdFrom, globalIdFrom, faultFrom, markedRefusal, faultMarks};
+ghost use Rattle.korvezul.specs.Fields.{packetFields, packetFrom, packetMarks, faultFields, ifIdFrom, globalIdFrom, faultFrom, markedRefusal, faultMarks};
 
 // A BFD control packet: as `bfd::Packet`, with the marks P, F, C and D as numbers.
 #[repr(C)]
@@ -42,12 +42,6 @@ pub struct FaultFields {
     pub refresh: u8,
     pub ifid: u8,
     pub globalid: u8,
-}
-
-// A Global_ID with its mark.
-struct GlobalFields {
-    pub present: u8,
-    pub global: u32,
 }
 
 pub fn packet_fields(p: Packet) -> PacketFields
@@ -96,37 +90,20 @@ pub fn packet_marks(f: PacketFields) -> u32
     need(f.poll <= 1, 10, need(f.fin <= 1, 10, last))
 }
 
-fn global_fields(g: GlobalId) -> GlobalFields
-    ensures { λ r. ⌜ r ≡ globalFields g ⌝ }
-{
-    match g {
-        GlobalId::Absent => GlobalFields {
-            present: 0,
-            global: 0,
-        },
-        GlobalId::Present(global) => GlobalFields {
-            present: 1,
-            global: global,
-        },
-    }
-}
-
 pub fn fault_fields(f: Fault) -> FaultFields
     ensures { λ r. ⌜ r ≡ faultFields f ⌝ }
 {
     let key = rules::key_of(f);
-    let id = f.global;
-    let global = global_fields(id);
     FaultFields {
         node: key.node,
         interface: key.interface,
-        global: global.global,
+        global: key.global,
         kind: f.kind,
         linkdown: bit(f.linkdown),
         removed: bit(f.removed),
         refresh: f.refresh,
         ifid: key.present,
-        globalid: global.present,
+        globalid: key.carrier,
     }
 }
 

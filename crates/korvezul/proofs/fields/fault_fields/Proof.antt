@@ -11,5 +11,4 @@ fault-fields-spec =
     (λ c κs. search needs)
     (λ c κs. search needs)
     (λ c κs. search needs)
-    (λ c κs. search needs)
-    (λ c. rw (c .bit2 .ensures .0, c .before .bit .ensures .0, c .before .before .global-fields .ensures, c .before .before .before .key-of .ensures)))
+    (λ c. rw (c .bit2 .ensures .0, c .before .bit .ensures .0, c .before .before .key-of .ensures)))
