@@ -24,7 +24,7 @@ const DEFECTS: [&str; 7] = [
 ];
 const EDGES: [&str; 3] = ["detection time", "misconnectivity", "condition"];
 const WAYS: [&str; 3] = ["any call", "message on it", "seen on it"];
-const EXTRAS: [&str; 12] = [
+const EXTRAS: [&str; 14] = [
     "accepted CC",
     "accepted CV",
     "accepted AIS or LKR",
@@ -37,6 +37,8 @@ const EXTRAS: [&str; 12] = [
     "CC held down by a condition alone",
     "CC held down that would have led to INIT or UP",
     "crossed in INIT",
+    "R beside a condition that differs in Global_ID alone",
+    "condition beside one that differs in Global_ID alone",
 ];
 const ENDS: [&str; 3] = ["whole", "cut", "bad header"];
 
@@ -54,7 +56,7 @@ struct Counts {
     edges: [[Sides; 3]; 3],
     clock: Sides,
     largest: Sides,
-    extras: [u64; 12],
+    extras: [u64; 14],
     ends: [u64; 3],
 }
 
@@ -154,7 +156,22 @@ impl Counts {
         self.extras[4] += u64::from(kind < 2 && body[7] > 24);
         if let Some(session) = before.iter().find(|s| s.settings.label == record.label) {
             self.add_held(session, &read.message, record.time);
+            self.add_carriers(session, &read.message, record.time);
         }
+    }
+
+    /// Counts fault messages that a condition of another Global_ID meets.
+    fn add_carriers(&mut self, session: &Session, message: &Message, now: u64) {
+        let Message::Fault(fault) = message else {
+            return;
+        };
+        let beside = session.standing(now).any(|condition| {
+            condition.key.kind == fault.kind
+                && condition.key.origin.interface == fault.origin.interface
+                && condition.key.origin.global != fault.origin.global
+        });
+        self.extras[12] += u64::from(beside && fault.clear);
+        self.extras[13] += u64::from(beside && !fault.clear);
     }
 
     /// Counts what an accepted BFD message meets that is or becomes held down.

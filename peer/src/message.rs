@@ -75,15 +75,22 @@ pub struct InterfaceId {
     pub interface: u32,
 }
 
-/// A fault message. The Global_ID is read and checked but not kept, because
-/// nothing in a session depends on it.
+/// Where a fault arose, as the TLVs of its message name it: an operator by the
+/// Global_ID and an interface of theirs, each named or not.
+#[derive(Clone, Copy, Debug, Default, PartialEq, Eq)]
+pub struct Origin {
+    pub global: Option<u32>,
+    pub interface: Option<InterfaceId>,
+}
+
+/// A fault message.
 #[derive(Clone, Copy, Debug, PartialEq, Eq)]
 pub struct Fault {
     pub kind: FaultKind,
     pub link_down: bool,
     pub clear: bool,
     pub refresh: u8,
-    pub interface: Option<InterfaceId>,
+    pub origin: Origin,
 }
 
 /// A message of one of the three channels.
@@ -226,13 +233,13 @@ fn read_fault(message: &[u8]) -> Result<Read, Refused> {
     }
     let used = FAULT_HEAD + usize::from(message[8]);
     reach(message, used)?;
-    let interface = read_tlvs(&message[..used])?;
+    let origin = read_tlvs(&message[..used])?;
     let fault = Fault {
         kind,
         link_down: message[6] & 2 != 0,
         clear: message[6] & 1 != 0,
         refresh,
-        interface,
+        origin,
     };
     Ok(Read {
         message: Message::Fault(fault),
@@ -241,16 +248,15 @@ fn read_fault(message: &[u8]) -> Result<Read, Refused> {
 }
 
 /// Walks through the TLVs of a fault message that ends with them, up to the
-/// first wrong one, and gives the interface, if one is named.
-fn read_tlvs(message: &[u8]) -> Result<Option<InterfaceId>, Refused> {
-    let mut interface = None;
-    let mut global_seen = false;
+/// first wrong one, and gives what they name. Their order makes no difference.
+fn read_tlvs(message: &[u8]) -> Result<Origin, Refused> {
+    let mut origin = Origin::default();
     let mut at = FAULT_HEAD;
     while at < message.len() {
         let tlv = tlv_at(message, at)?;
         let repeated = match tlv[0] {
-            1 => interface.is_some(),
-            2 => global_seen,
+            1 => origin.interface.is_some(),
+            2 => origin.global.is_some(),
             _ => false,
         };
         if repeated {
@@ -258,18 +264,18 @@ fn read_tlvs(message: &[u8]) -> Result<Option<InterfaceId>, Refused> {
         }
         match (tlv[0], tlv.len() - 2) {
             (1, 8) => {
-                interface = Some(InterfaceId {
+                origin.interface = Some(InterfaceId {
                     node: be32(tlv, 2),
                     interface: be32(tlv, 6),
                 });
             }
-            (2, 4) => global_seen = true,
+            (2, 4) => origin.global = Some(be32(tlv, 2)),
             (1 | 2, _) => return Err(Refusal::Fault.at(at + 1)),
             _ => {}
         }
         at += tlv.len();
     }
-    Ok(interface)
+    Ok(origin)
 }
 
 /// The TLV at `at`, type and length included. One octet alone is too short to

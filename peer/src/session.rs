@@ -1,7 +1,7 @@
 //! One session: what it keeps, how it moves and what it says of itself.
 
 use crate::message::{
-    Bfd, Fault, FaultKind, InterfaceId, MepId, Message, State, CHANNEL_CC, CHANNEL_CV,
+    Bfd, Fault, FaultKind, MepId, Message, Origin, State, CHANNEL_CC, CHANNEL_CV,
 };
 use crate::refusal::Refusal;
 use crate::settings::Settings;
@@ -15,11 +15,12 @@ pub const CONDITIONS: usize = 4;
 /// The detection multiplier before a CC gives one, and the one written.
 const OWN_MULTIPLIER: u8 = 3;
 
-/// The key of a fault condition. An absent interface is a key of its own.
+/// The key of a fault condition: its type, Global_ID and interface. One that is
+/// absent equals an absent one and no other.
 #[derive(Clone, Copy, Debug, PartialEq, Eq)]
 pub struct Key {
     pub kind: FaultKind,
-    pub interface: Option<InterfaceId>,
+    pub origin: Origin,
 }
 
 /// A fault condition as its last message left it.
@@ -367,7 +368,7 @@ impl Session {
 fn key_of(fault: &Fault) -> Key {
     Key {
         kind: fault.kind,
-        interface: fault.interface,
+        origin: fault.origin,
     }
 }
 

@@ -59,7 +59,7 @@ fn conditions_are_sound(session: &Session, clock: u64) -> bool {
 #[cfg(test)]
 mod tests {
     use super::*;
-    use crate::message::{FaultKind, MepId};
+    use crate::message::{FaultKind, MepId, Origin};
     use crate::session::Key;
     use crate::settings::Settings;
 
@@ -85,7 +85,7 @@ mod tests {
     fn condition(arrived: u64) -> Option<Condition> {
         let key = Key {
             kind: FaultKind::LockReport,
-            interface: None,
+            origin: Origin::default(),
         };
         Some(Condition {
             key,
@@ -143,5 +143,18 @@ mod tests {
             s.conditions[0] = condition(0);
             s.conditions[2] = condition(CLOCK);
         }));
+    }
+
+    #[test]
+    fn conditions_of_two_operators_are_sound() {
+        for global in [0, 7] {
+            assert!(verdict(|s| {
+                s.conditions[0] = condition(0);
+                s.conditions[2] = condition(CLOCK).map(|mut c| {
+                    c.key.origin.global = Some(global);
+                    c
+                });
+            }));
+        }
     }
 }

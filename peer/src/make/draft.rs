@@ -1,7 +1,7 @@
 //! Messages as they are drafted for a capture, right or wrong.
 
 use super::{Circuit, Maker};
-use crate::message::{State, CHANNEL_CC, CHANNEL_CV, CHANNEL_FAULT};
+use crate::message::{Origin, State, CHANNEL_CC, CHANNEL_CV, CHANNEL_FAULT};
 
 /// A BFD packet with its channel header.
 #[derive(Clone)]
@@ -75,6 +75,22 @@ pub(super) fn interface_tlv(node: u32, interface: u32) -> Vec<u8> {
     tlv.extend_from_slice(&node.to_be_bytes());
     tlv.extend_from_slice(&interface.to_be_bytes());
     tlv
+}
+
+/// A Global_ID TLV.
+pub(super) fn global_tlv(global: u32) -> Vec<u8> {
+    let mut tlv = vec![2, 4];
+    tlv.extend_from_slice(&global.to_be_bytes());
+    tlv
+}
+
+/// The TLVs that name an origin.
+pub(super) fn origin_tlvs(origin: &Origin) -> Vec<Vec<u8>> {
+    let interface = origin
+        .interface
+        .map(|id| interface_tlv(id.node, id.interface));
+    let global = origin.global.map(global_tlv);
+    interface.into_iter().chain(global).collect()
 }
 
 impl Maker {
@@ -221,16 +237,22 @@ impl Maker {
             let interface = self.random.pick(&[0, 0, 1, 2]);
             tlvs.push(interface_tlv(node, interface));
         }
-        if self.random.chance(40) {
-            let mut tlv = vec![2, 4];
-            tlv.extend_from_slice(&self.random.word().to_be_bytes());
-            tlvs.push(tlv);
-        }
+        tlvs.extend(self.any_global().map(global_tlv));
         while self.random.chance(20) && tlvs.len() < 6 {
             tlvs.push(self.unknown_tlv());
         }
         self.shuffle(&mut tlvs);
         tlvs
+    }
+
+    /// A Global_ID of few: none, 0, one of two carriers, seldom another.
+    pub(super) fn any_global(&mut self) -> Option<u32> {
+        let other = self.random.word();
+        let few = [None, None, Some(0), Some(7), Some(7), Some(8)];
+        match self.random.chance(5) {
+            true => Some(other),
+            false => self.random.pick(&few),
+        }
     }
 
     pub(super) fn unknown_tlv(&mut self) -> Vec<u8> {
@@ -242,7 +264,7 @@ impl Maker {
         tlv
     }
 
-    fn shuffle(&mut self, tlvs: &mut [Vec<u8>]) {
+    pub(super) fn shuffle(&mut self, tlvs: &mut [Vec<u8>]) {
         for last in (1..tlvs.len()).rev() {
             let other = self.random.between(0, last as u64) as usize;
             tlvs.swap(last, other);

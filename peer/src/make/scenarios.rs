@@ -1,7 +1,10 @@
 //! What happens in a capture: single calls and short sequences of them.
 
 use super::damage::{fields, get, set, values};
-use super::draft::{interface_tlv, BfdDraft, FaultDraft, ALARM_INDICATION, CLEAR, LINK_DOWN, POLL};
+use super::draft::{
+    global_tlv, interface_tlv, origin_tlvs, BfdDraft, FaultDraft, ALARM_INDICATION, CLEAR,
+    LINK_DOWN, POLL,
+};
 use super::{Circuit, Maker, Style};
 use crate::capture::{open_body, Kind};
 use crate::edges;
@@ -253,7 +256,8 @@ impl Maker {
         self.receive(&circuit, time, message);
     }
 
-    /// Gives the draft the key of a condition that the session holds.
+    /// Gives the draft the key of a condition that the session holds, at times
+    /// with another Global_ID.
     fn repeat_key(&mut self, circuit: &Circuit, draft: &mut FaultDraft) {
         let held: Vec<_> = match self.session(circuit) {
             Some(session) => session.conditions.iter().flatten().copied().collect(),
@@ -262,18 +266,19 @@ impl Maker {
         if held.is_empty() {
             return;
         }
-        let key = self.random.pick(&held).key;
+        let mut key = self.random.pick(&held).key;
+        if self.random.chance(40) {
+            key.origin.global = self.any_global();
+        }
         draft.kind = match key.kind {
             crate::message::FaultKind::AlarmIndication => ALARM_INDICATION,
             crate::message::FaultKind::LockReport => super::draft::LOCK_REPORT,
         };
-        draft.tlvs = match key.interface {
-            Some(id) => vec![interface_tlv(id.node, id.interface)],
-            None => Vec::new(),
-        };
+        draft.tlvs = origin_tlvs(&key.origin);
         if self.random.chance(30) {
             draft.tlvs.push(self.unknown_tlv());
         }
+        self.shuffle(&mut draft.tlvs);
     }
 
     fn send_damaged(&mut self) {
@@ -417,12 +422,19 @@ impl Maker {
         let circuit = self.pick_circuit();
         let refresh = self.random.pick(&[1, 2, 20]);
         let mut drafts = Vec::new();
+        let carriers = self.random.chance(40);
         for number in 0..self.random.between(4, 6) as u32 {
+            // Interfaces of one carrier, or one interface of all of them.
+            let tlvs = match (carriers, number) {
+                (false, _) => vec![interface_tlv(7, number)],
+                (true, 0) => vec![interface_tlv(7, 0)],
+                (true, _) => vec![interface_tlv(7, 0), global_tlv(number - 1)],
+            };
             drafts.push(FaultDraft {
                 kind: self.random.pick(&[1, 2]),
                 flags: self.random.pick(&[0, LINK_DOWN]),
                 refresh,
-                tlvs: vec![interface_tlv(7, number)],
+                tlvs,
             });
         }
         for draft in &drafts {
