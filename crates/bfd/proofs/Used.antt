@@ -10,12 +10,13 @@ use lib.Dec.{ltb, eqb}
 use lib.ListN.{length, take}
 use lib.Seq.{length-take-le, getD-take}
 use borrow.Author.Tests.{lt-ltb, le-ltb, eq-eqb, ne-eqb}
+use Rattle.octets.proofs.Cuts.{at-front}
 use Rattle.octets.specs.Numbers.{numberAt}
 use Rattle.octets.specs.Choice.{need, orElse}
 use Rattle.gach.specs.Header.{ccChannel, headerPlace, channelPlace}
 use Rattle.gach.specs.Places.{Used}
 use Rattle.gach.proofs.Says.{channel-passes}
-use Rattle.gach.proofs.Places.{below, number-front, channel-front, channel-cut}
+use Rattle.gach.proofs.Places.{below, channel-front, channel-cut}
 use Rattle.bfd.specs.Packet.{flagOctet, lengthOf, packetOf}
 use Rattle.bfd.specs.Reception.{yourRefusal, controlRefusal, ccRefusal, readCc, rulePlace, yourPlace, bodyPlace, ccEnd, ccPlace}
 use Rattle.bfd.proofs.Says.{ControlSays, control-passes, CcSays, cc-says, cc-passes}
@@ -32,7 +33,7 @@ module _ (m : List ℕ) (n : ℕ) (h : n ≤ length m) (f : 28 ≤ n) where
         pointToPoint = rw (getD-take n m 5 0 (omega arith)) (s .pointToPoint);
         multiplier = rw (getD-take n m 6 0 (omega arith)) (s .multiplier);
         whole = rw (getD-take n m 7 0 (omega arith)) (s .whole);
-        my = rw (number-front 4 n m 8 (omega arith)) (s .my);
+        my = rw (at-front 4 n m 8 (omega arith)) (s .my);
       }
 
   pub packet-front : packetOf (take n m) ≡ packetOf m
@@ -42,11 +43,11 @@ module _ (m : List ℕ) (n : ℕ) (h : n ≤ length m) (f : 28 ≤ n) where
         getD-take n m 4 0 (omega arith),
         getD-take n m 5 0 (omega arith),
         getD-take n m 6 0 (omega arith),
-        number-front 4 n m 8 (omega arith),
-        number-front 4 n m 12 (omega arith),
-        number-front 4 n m 16 (omega arith),
-        number-front 4 n m 20 (omega arith),
-        number-front 4 n m 24 (omega arith),
+        at-front 4 n m 8 (omega arith),
+        at-front 4 n m 12 (omega arith),
+        at-front 4 n m 16 (omega arith),
+        at-front 4 n m 20 (omega arith),
+        at-front 4 n m 24 (omega arith),
       )
 
 -- and inside them
@@ -95,7 +96,7 @@ cc-front m s =
     let f : 28 ≤ n = omega (arith, s .control .whole) in
     record {
       control = control-front m n (s .fits) f ccChannel (s .control);
-      your = rw (getD-take n m 5 0 (omega arith), number-front 4 n m 12 (omega arith)) (s .your);
+      your = rw (getD-take n m 5 0 (omega arith), at-front 4 n m 12 (omega arith)) (s .your);
       fits = rw (getD-take n m 7 0 (omega arith), length-take-le n m (s .fits)) (le-refl n);
     }
 
@@ -110,7 +111,7 @@ cc-cut m n s h =
     rw (
       control-passes ccChannel (take n m) (control-front m n le high ccChannel (s .control)),
       getD-take n m 5 0 (omega arith),
-      number-front 4 n m 12 (omega arith),
+      at-front 4 n m 12 (omega arith),
       s .your,
       lt-ltb (length (take n m)) (4 + lengthOf (take n m)) (omega (arith, length-take-le n m le)),
     ))

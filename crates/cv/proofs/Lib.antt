@@ -1,5 +1,10 @@
+pub mod Forms
+pub mod Fronts
 pub mod Says
-pub mod RoundTrip
+pub mod Octets
 pub mod MepIds
+pub mod RoundTrip
+pub mod Source
 pub mod Earliest
 pub mod Used
+pub mod Edges

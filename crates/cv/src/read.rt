@@ -1,9 +1,10 @@
 // Reading: the refusals in the paper's order, the fields, and the caller's own stretch.
 use crate::CvAnswer;
+use crate::MepAnswer;
 use crate::MepId;
 use crate::Verification;
-use crate::mep_id::mep_id_at;
-use crate::mep_id::mep_refusal;
+use crate::form::mep_refusal;
+use crate::mep_id::mep_id_in;
 use crate::place::cv_place;
 use gach::CV_CHANNEL;
 use octets::get_u8;
@@ -12,8 +13,8 @@ ghost use mathlib.Core.Path.{_≡_};
 ghost use Prim.Native.Nat.{_+_};
 ghost use lib.ListN.{getD};
 ghost use Rattle.octets.specs.Choice.{answer};
-ghost use Rattle.cv.specs.MepId.{mepIdAt};
-ghost use Rattle.cv.specs.Cv.{mepAt, cvBodyRefusal, cvRefusal, verificationOf, said, cvReading, mepPart, partAt};
+ghost use Rattle.cv.specs.MepId.{mepSaid, readMep};
+ghost use Rattle.cv.specs.Cv.{mepAt, cvBodyRefusal, cvRefusal, sourceOf, verificationOf, said, cvReading, mepPart, partAt};
 
 // Where the MEP-ID starts: right after Length octets.
 pub(crate) fn mep_at(m: &[u8]) -> u16
@@ -26,15 +27,7 @@ pub(crate) fn mep_at(m: &[u8]) -> u16
 pub fn cv_body_refusal(m: &[u8]) -> u32
     ensures { λ r. ⌜ r ≡ cvBodyRefusal (now (m .entry)) ⌝ }
 {
-    let body = bfd::body_refusal(m);
-    if body != 0 {
-        return body;
-    }
-    let at = mep_at(m) as usize;
-    if m.len() < at + 16 {
-        return 3;
-    }
-    mep_refusal(get_u16(m, at), get_u16(m, at + 2))
+    octets::or_else(bfd::body_refusal(m), mep_refusal(m, mep_at(m)))
 }
 
 // What a CV is refused for; 0 where it is accepted.
@@ -46,9 +39,9 @@ pub fn cv_refusal(m: &[u8]) -> u32
 
 // The MEP-ID of a message, whether or not it is refused.
 pub fn source_of(m: &[u8]) -> MepId
-    ensures { λ r. ⌜ r ≡ mepIdAt (now (m .entry)) (mepAt (now (m .entry))) ⌝ }
+    ensures { λ r. ⌜ r ≡ sourceOf (now (m .entry)) ⌝ }
 {
-    mep_id_at(m, mep_at(m))
+    mep_id_in(m, mep_at(m))
 }
 
 fn verification(m: &[u8]) -> Verification
@@ -85,9 +78,27 @@ pub fn mep_part(m: &[u8]) -> &[u8]
 {
     let refusal = cv_refusal(m);
     let at = mep_at(m) as usize;
+    let length = get_u16(m, at + 2) as usize;
     if refusal == 0 {
-        &m[at..at + 16]
+        &m[at..at + 4 + length]
     } else {
         &m[..0]
     }
+}
+
+fn mep_answer(refusal: u32, id: MepId) -> MepAnswer
+    ensures { λ r. ⌜ mepSaid r ≡ answer refusal id ⌝ }
+{
+    if refusal == 0 {
+        MepAnswer::Read(id)
+    } else {
+        MepAnswer::Refused(refusal)
+    }
+}
+
+// Reads a MEP-ID alone, from its octets, type to end: 3 and 7 as in a CV.
+pub fn read_mep_id(s: &[u8]) -> MepAnswer
+    ensures { λ r. ⌜ mepSaid r ≡ readMep (now (s .entry)) ⌝ }
+{
+    mep_answer(mep_refusal(s, 0), mep_id_in(s, 0))
 }

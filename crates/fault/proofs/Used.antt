@@ -9,11 +9,12 @@ use lib.ListN.{length, take}
 use lib.Seq.{getD-take, length-take-le}
 use lib.Dec.{ltb, eqb}
 use borrow.Author.Tests.{lt-ltb, ltb-true, ltb-false, eqb-true, eq-eqb, ne-eqb}
+use Rattle.octets.proofs.Cuts.{at-front}
 use Rattle.octets.specs.Numbers.{numberAt}
 use Rattle.gach.specs.Header.{faultChannel, headerRefusal, channelRefusal}
 use Rattle.gach.specs.Places.{Used}
 use Rattle.gach.proofs.Says.{channel-passes}
-use Rattle.gach.proofs.Places.{number-front, channel-front}
+use Rattle.gach.proofs.Places.{channel-front}
 use Rattle.fault.specs.declared.tlv.Tlvs.{Tlvs}
 use Rattle.fault.specs.Tlvs.{rightLength, badOctet, withTlv, stepWith, step, walk, start, tlvsOf}
 use Rattle.fault.specs.Message.{tlvsEnd, tlvsIn, headRefusal, refusalWith, faultRefusal, fieldsWith, faultOf, readFault, faultPlace}
@@ -52,8 +53,8 @@ module _ (m : List ℕ) (end : ℕ) (t : Tlvs) (low : 9 ≤ t .at) (h : t .at < 
     goes e w l =
         rw e (taken-same t kind size _ _ _ _
         (λ x. let n : size ≡ 8 = eqb-true size 8 (rw x at l) in
-        (number-front 4 end m (t .at + 2) (omega arith), number-front 4 end m (t .at + 6) (omega arith)))
-        (λ x y. let n : size ≡ 4 = eqb-true size 4 (rw (x, y) at l) in number-front 4 end m (t .at + 2) (omega arith)))
+        (at-front 4 end m (t .at + 2) (omega arith), at-front 4 end m (t .at + 6) (omega arith)))
+        (λ x y. let n : size ≡ 4 = eqb-true size 4 (rw (x, y) at l) in at-front 4 end m (t .at + 2) (omega arith)))
 
     by : Verdict t end kind size
         → stepWith t end kind size (numberAt 4 front (t .at + 2)) (numberAt 4 front (t .at + 6))

@@ -12,6 +12,7 @@ use borrow.Author.Tests.{ltb-true, ltb-false, eqb-true, lt-ltb}
 use Rattle.octets.specs.Numbers.{numberAt}
 use Rattle.octets.specs.Choice.{need, bar, orElse}
 use Rattle.octets.proofs.Chain.{orElse-assoc}
+use Rattle.octets.proofs.Cuts.{at-front}
 use Rattle.gach.specs.Header.{channelOf, headerRefusal, channelRefusal, headerPlace, channelPlace}
 use Rattle.gach.specs.Places.{Earliest, Told}
 use Rattle.gach.proofs.Says.{ChannelSays}
@@ -70,11 +71,6 @@ by-test false low high = high refl
 pub below : {A : Type 0} (n k : ℕ) → (n < k → A) → (k ≤ n → A) → A
 below n k low high = by-test (ltb n k) (λ e. low (ltb-true n k e)) (λ e. high (ltb-false n k e))
 
--- a number in the octets that are left is what it was
-pub number-front : (k n : ℕ) (m : List ℕ) (at : ℕ) → at + k ≤ n → numberAt k (take n m) at ≡ numberAt k m at
-number-front zero n m at f = refl
-number-front (suc k) n m at f = rw (number-front k n m at (omega arith), getD-take n m (at + k) 0 (omega arith))
-
 module _ (m : List ℕ) (n : ℕ) (h : n ≤ length m) where
   -- the header of a message that is cut behind it, and inside it
   pub channel-front : (own : ℕ) → 4 ≤ n → ChannelSays own m → ChannelSays own (take n m)
@@ -83,7 +79,7 @@ module _ (m : List ℕ) (n : ℕ) (h : n ≤ length m) where
         long = omega (arith, length-take-le n m h);
         nibble = rw (getD-take n m 0 0 (omega arith)) (s .nibble);
         version = rw (getD-take n m 0 0 (omega arith)) (s .version);
-        channel = rw (number-front 2 n m 2 (omega arith)) (s .channel);
+        channel = rw (at-front 2 n m 2 (omega arith)) (s .channel);
       }
 
   pub channel-cut : (own : ℕ) → n < 4 → channelRefusal own (take n m) ≡ 3

@@ -12,7 +12,7 @@ use Rattle.gach.specs.Kinds.{kindRefusal}
 use Rattle.gach.proofs.Says.{header-most, channel-most}
 use Rattle.bfd.specs.Packet.{versionOctet, flagOctet, lengthOf}
 use Rattle.bfd.specs.Reception.{ruleRefusal, yourRefusal, controlRefusal, ccRefusal}
-use Rattle.cv.specs.MepId.{mepRefusal}
+use Rattle.cv.specs.Forms.{lengthFits, agiFits, formRefusal, agiRefusal, mepRefusal}
 use Rattle.cv.specs.Cv.{mepAt, cvRefusal}
 use Rattle.fault.proofs.Bounds.{fault-most}
 use Rattle.message.specs.Message.{messageRefusal}
@@ -42,15 +42,26 @@ cc-most m =
     (need-most 8 (eqb (yourRefusal (flagOctet m / 64) (numberAt 4 m 12)) 0) (your-most (flagOctet m / 64) (numberAt 4 m 12))
     (bar-most 8 (ltb (length m) (4 + lengthOf m)) (omega arith) (omega arith)))
 
-mep-most : (kind len : ℕ) → mepRefusal kind len ≤ 8
+form-most : (kind len : ℕ) → formRefusal kind len ≤ 8
+unfolding formRefusal
+form-most kind len = need-most 8 (ltb kind 3) (omega arith) (need-most 8 (lengthFits kind len) (omega arith) (omega arith))
+
+agi-most : (kind len agi : ℕ) → agiRefusal kind len agi ≤ 8
+unfolding agiRefusal
+agi-most kind len agi = need-most 8 (agiFits kind len agi) (omega arith) (omega arith)
+
+mep-most : (m : List ℕ) (at : ℕ) → mepRefusal m at ≤ 8
 unfolding mepRefusal
-mep-most kind len = need-most 8 (ltb kind 2) (omega arith) (need-most 8 (eqb len 12) (omega arith) (omega arith))
+mep-most m at =
+    let kind = numberAt 2 m at in
+    let len = numberAt 2 m (at + 2) in
+    bar-most 8 (ltb (length m) (at + 4)) (omega arith)
+    (need-most 8 (eqb (formRefusal kind len) 0) (form-most kind len)
+    (bar-most 8 (ltb (length m) (at + 4 + len)) (omega arith) (agi-most kind len (getD m (at + 17) 0))))
 
 cv-most : (m : List ℕ) → cvRefusal m ≤ 8
 unfolding cvRefusal
-cv-most m =
-    need-most 8 (eqb (controlRefusal cvChannel m) 0) (control-most cvChannel m)
-    (bar-most 8 (ltb (length m) (mepAt m + 16)) (omega arith) (mep-most (numberAt 2 m (mepAt m)) (numberAt 2 m (mepAt m + 2))))
+cv-most m = need-most 8 (eqb (controlRefusal cvChannel m) 0) (control-most cvChannel m) (mep-most m (mepAt m))
 
 kind-most : (m : List ℕ) → kindRefusal (headerRefusal m) (channelOf m) ≤ 8
 unfolding kindRefusal

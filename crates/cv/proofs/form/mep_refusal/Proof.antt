@@ -1,0 +1,13 @@
+use Rattle.cv.specs.Forms.{mepRefusal}
+use borrow.Author.Needs.{needs}
+use Rattle.cv.proofs.form.mep_refusal.Statement.{statement}
+use Rattle.cv.proofs.form.mep_refusal.Tie as tie
+
+pub mep-refusal-spec : {M : Type 1} → statement M
+unfolding mepRefusal
+mep-refusal-spec =
+    tie.close
+    (tie.spec (λ c κs. search needs) (λ c. search needs) (λ c κs. search needs) (λ c. search needs)
+    (λ c κs. search needs) (λ c κs. search needs) (λ c. search needs) (λ c. search needs) (λ c. search needs)
+    (λ c κs. search needs) (λ c κs. search needs) (λ c κs. search needs) (λ c. search needs) (λ c κs. search needs)
+    (λ c. cc))
