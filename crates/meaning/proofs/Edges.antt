@@ -12,7 +12,8 @@ use Rattle.gach.specs.Kinds.{kindRefusal}
 use Rattle.bfd.specs.Packet.{packetOf}
 use Rattle.bfd.specs.Reception.{ruleRefusal, yourRefusal, controlRefusal, ccRefusal}
 use Rattle.bfd.specs.Octets.{packetOctets}
-use Rattle.cv.specs.MepId.{mepOctets, sameMepId, mepRefusal}
+use Rattle.cv.specs.Forms.{valueLength, lengthFits, agiFits, formRefusal, agiRefusal, mepRefusal, mepFits}
+use Rattle.cv.specs.MepId.{headOctets, agiOctets, mepOctets, sameMepId}
 use Rattle.cv.specs.Cv.{cvRefusal, mepPart}
 use Rattle.fault.specs.Tlvs.{tlvsOf}
 use Rattle.fault.specs.Message.{rangeRefusal, headRefusal, refusalWith, faultRefusal, fieldsWith, faultOf}
@@ -25,5 +26,5 @@ use Rattle.meaning.specs.Answers.{rival, openNumber, actSaid, saysOf, sa
 use Rattle.meaning.specs.Edges.{told-all, lastSaid, Hold, edges}
 
 pub edges-hold : Hold edges
-unfolding Hold edges lastSaid told-all says saysOf actSaid openNumber rival clockOf story labels late past within settingsFit any only once receivedAs sameIfId sameGlobalId sameKey follows writing headerRefusal channelRefusal kindRefusal packetOf ruleRefusal yourRefusal controlRefusal ccRefusal packetOctets mepOctets sameMepId mepRefusal cvRefusal mepPart tlvsOf rangeRefusal headRefusal refusalWith faultRefusal fieldsWith faultOf faultOctets messageRefusal messageOf settingsOf locked crossing timedFrom multiplierOf loss state stateAt remoteDiagnostic remoteOf owed stands followedLast keysOf conditions followed held report diagnostic packet ccWritten cvWritten
+unfolding Hold edges lastSaid told-all says saysOf actSaid openNumber rival clockOf story labels late past within settingsFit any only once receivedAs sameIfId sameGlobalId sameKey follows writing headerRefusal channelRefusal kindRefusal packetOf ruleRefusal yourRefusal controlRefusal ccRefusal packetOctets valueLength lengthFits agiFits formRefusal agiRefusal mepRefusal mepFits headOctets agiOctets mepOctets sameMepId cvRefusal mepPart tlvsOf rangeRefusal headRefusal refusalWith faultRefusal fieldsWith faultOf faultOctets messageRefusal messageOf settingsOf locked crossing timedFrom multiplierOf loss state stateAt remoteDiagnostic remoteOf owed stands followedLast keysOf conditions followed held report diagnostic packet ccWritten cvWritten
 edges-hold = (refl, (refl, (refl, (refl, (refl, (refl, (refl, (refl, (refl, (refl, (refl, (refl, (refl, (refl, (refl, tt)))))))))))))))

@@ -123,7 +123,7 @@ cc-front : (p : Packet) (pad : List ℕ) → ccOctets p ++ pad ≡ packetOctets 
 unfolding packetOctets
 cc-front p pad = refl
 
-cv-front : (p : Packet) (id : MepId) (pad : List ℕ) → cvOctets p id ++ pad ≡ packetOctets cvChannel p (mepOctets id [] ++ pad)
+cv-front : (p : Packet) (id : MepId) (pad : List ℕ) → cvOctets p id ++ pad ≡ packetOctets cvChannel p (mepOctets id ++ pad)
 unfolding packetOctets
 cv-front p id pad = refl
 
@@ -144,7 +144,7 @@ cv-down now c b (some s) r e =
     let id = settingsOf s .own in
     let octets = cvOctets (packet now s false) id in
     subst WrittenDown (sym (front octets b e ∙ cv-front (packet now s false) id (drop (length octets) b)))
-    (packet-down cvChannel now s false (mepOctets id [] ++ drop (length octets) b) r)
+    (packet-down cvChannel now s false (mepOctets id ++ drop (length octets) b) r)
 
 shown-down : (now : ℕ) (c : Call) (o : Option Story) → OpenBy now o → reportSaid c now o .report .crossing ≡ 1 → reportSaid c now o .report .state ≤ 1
 shown-down now c none r e = omega arith

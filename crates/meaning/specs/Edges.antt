@@ -8,6 +8,7 @@ use lib.ListN.{replicate}
 use Rattle.bfd.specs.declared.Packet.{Packet}
 use Rattle.bfd.specs.Octets.{ccOctets}
 use Rattle.cv.specs.declared.MepId.{MepId}
+use Rattle.cv.specs.MepId.{noAgi}
 use Rattle.cv.specs.Cv.{cvOctets}
 use Rattle.fault.specs.declared.IfId.the-variants.{Absent as NoIfId}
 use Rattle.fault.specs.declared.GlobalId.the-variants.{Absent as NoGlobalId}
@@ -37,10 +38,10 @@ Hold (e ∷ es) = (lastSaid e ≡ e .said) × Hold es
 
 -- discriminator 17, period 1,000,000, nothing followed
 abbrev mep : ℕ → MepId
-mep local = record { kind = 1; global = 7; node = 8; local = local }
+mep local = record { agi = noAgi; global = 7; node = 8; local = local; kind = 1; group = 0; size = 0 }
 
 abbrev settings : Settings
-settings = record { label = 100; discriminator = 17; period = 1000000; own = mep 1; expected = mep 2; followlink = 0; followlock = 0 }
+settings = record { own = mep 1; expected = mep 2; label = 100; discriminator = 17; period = 1000000; followlink = 0; followlock = 0 }
 
 abbrev opening : Call
 opening = Open settings 0

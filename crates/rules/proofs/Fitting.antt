@@ -4,12 +4,13 @@ use mathlib.Core.Path.{_≡_}
 use mathlib.Core.Bool.{true}
 use Prim.Native.Nat.{_≤_, _<_}
 use native.Mathlib.Omega.{arith}
+use Rattle.cv.specs.Forms.{mepFits}
 use Rattle.rules.specs.declared.Settings.{Settings}
 use Rattle.rules.specs.Settings.{settingsFit}
-use Rattle.rules.specs.Unfit.{Unfit, labelBelow, labelAbove, noDiscriminator, periodBelow, periodAbove, ownKind, expectedKind, linkMark, lockMark}
-use Rattle.rules.proofs.Bools.{true-false}
+use Rattle.rules.specs.Unfit.{Unfit, labelBelow, labelAbove, noDiscriminator, periodBelow, periodAbove, ownKind, ownAgi, expectedKind, expectedAgi, linkMark, lockMark}
+use Rattle.rules.proofs.Bools.{forced, true-false}
 use Rattle.rules.proofs.Failing.{at-most}
-use Rattle.rules.proofs.Unfit.{settings-unfit}
+use Rattle.rules.proofs.Unfit.{end-fails, settings-unfit}
 
 pub record SettingsSay (s : Settings) : Type 0 where
   pub labelLow : 16 ≤ s .label
@@ -17,8 +18,8 @@ pub record SettingsSay (s : Settings) : Type 0 where
   pub discriminator : s .discriminator ≡ 0 → ⊥
   pub periodLow : 1000 ≤ s .period
   pub periodHigh : s .period ≤ 10000000
-  pub own : s .own .kind < 2
-  pub expected : s .expected .kind < 2
+  pub own : mepFits (s .own .kind) (s .own .size) ≡ true
+  pub expected : mepFits (s .expected .kind) (s .expected .size) ≡ true
   pub followlink : s .followlink < 2
   pub followlock : s .followlock < 2
 
@@ -30,8 +31,8 @@ settings-say s e =
       discriminator = λ h. no (noDiscriminator h);
       periodLow = at-most 1000 _ (λ h. no (periodBelow h));
       periodHigh = at-most _ 10000000 (λ h. no (periodAbove h));
-      own = omega (arith, at-most (s .own .kind) 1 (λ h. no (ownKind h)));
-      expected = omega (arith, at-most (s .expected .kind) 1 (λ h. no (expectedKind h)));
+      own = forced _ (λ f. no (end-fails _ _ ownKind ownAgi f));
+      expected = forced _ (λ f. no (end-fails _ _ expectedKind expectedAgi f));
       followlink = omega (arith, at-most (s .followlink) 1 (λ h. no (linkMark h)));
       followlock = omega (arith, at-most (s .followlock) 1 (λ h. no (lockMark h)));
     }

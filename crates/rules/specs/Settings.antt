@@ -3,7 +3,7 @@
 use Prim.Native.Nat.{ℕ}
 use mathlib.Core.Bool.{Bool, not, _&&_}
 use lib.Dec.{ltb, leb, eqb}
-use Rattle.cv.specs.declared.MepId.{MepId}
+use Rattle.cv.specs.Forms.{mepFits}
 use Rattle.rules.specs.declared.Settings.{Settings}
 
 abbrev pub labelFits : ℕ → Bool
@@ -16,10 +16,6 @@ discriminatorFits discriminator = not (eqb discriminator 0)
 abbrev pub periodFits : ℕ → Bool
 periodFits period = leb 1000 period && leb period 10000000
 
--- MEP-ID type 0 or 1
-abbrev pub kindFits : ℕ → Bool
-kindFits kind = ltb kind 2
-
 -- a yes/no mark: 0 or 1
 abbrev pub markFits : ℕ → Bool
 markFits mark = ltb mark 2
@@ -27,9 +23,15 @@ markFits mark = ltb mark 2
 abbrev pub circuitFits : ℕ → ℕ → ℕ → Bool
 circuitFits label discriminator period = labelFits label && discriminatorFits discriminator && periodFits period
 
-abbrev pub choicesFit : ℕ → ℕ → ℕ → ℕ → Bool
-choicesFit own expected followlink followlock = kindFits own && kindFits expected && markFits followlink && markFits followlock
+-- of each end point the type and the AGI length: type 0 or 1, or type 2 with an AGI length of at most 32
+abbrev pub endsFit : ℕ → ℕ → ℕ → ℕ → Bool
+endsFit own ownAgi expected expectedAgi = mepFits own ownAgi && mepFits expected expectedAgi
+
+abbrev pub marksFit : ℕ → ℕ → Bool
+marksFit followlink followlock = markFits followlink && markFits followlock
 
 -- refusal 10 on open is for settings that do not fit
 unfoldable pub settingsFit : Settings → Bool
-settingsFit s = circuitFits (s .label) (s .discriminator) (s .period) && choicesFit (s .own .kind) (s .expected .kind) (s .followlink) (s .followlock)
+settingsFit s =
+    circuitFits (s .label) (s .discriminator) (s .period)
+    && (endsFit (s .own .kind) (s .own .size) (s .expected .kind) (s .expected .size) && marksFit (s .followlink) (s .followlock))

@@ -59,11 +59,11 @@ pub enum Input {
 // the marks follow link-down and follow lock, 0 or 1.
 #[repr(C)]
 pub struct Settings {
+    pub own: MepId,
+    pub expected: MepId,
     pub label: u32,
     pub discriminator: u32,
     pub period: u32,
-    pub own: MepId,
-    pub expected: MepId,
     pub followlink: u8,
     pub followlock: u8,
 }

@@ -1,7 +1,7 @@
 // What an opening gives, in range or not.
 use crate::Settings;
 ghost use mathlib.Core.Path.{_≡_};
-ghost use Rattle.rules.specs.Settings.{circuitFits, choicesFit, settingsFit};
+ghost use Rattle.rules.specs.Settings.{circuitFits, endsFit, marksFit, settingsFit};
 
 fn circuit_fits(label: u32, discriminator: u32, period: u32) -> bool
     ensures { λ r. ⌜ r ≡ circuitFits label discriminator period ⌝ }
@@ -21,15 +21,16 @@ fn circuit_fits(label: u32, discriminator: u32, period: u32) -> bool
     period <= 10_000_000
 }
 
-fn choices_fit(own: u16, expected: u16, followlink: u8, followlock: u8) -> bool
-    ensures { λ r. ⌜ r ≡ choicesFit own expected followlink followlock ⌝ }
+// Each MEP-ID by its type and its AGI length.
+fn ends_fit(own: u16, agi: u8, expected: u16, other: u8) -> bool
+    ensures { λ r. ⌜ r ≡ endsFit own agi expected other ⌝ }
 {
-    if 2 <= own {
-        return false;
-    }
-    if 2 <= expected {
-        return false;
-    }
+    octets::both(cv::mep_fits(own, agi), cv::mep_fits(expected, other))
+}
+
+fn marks_fit(followlink: u8, followlock: u8) -> bool
+    ensures { λ r. ⌜ r ≡ marksFit followlink followlock ⌝ }
+{
     if 2 <= followlink {
         return false;
     }
@@ -41,7 +42,8 @@ pub fn settings_fit(s: Settings) -> bool
     ensures { λ r. ⌜ r ≡ settingsFit s ⌝ }
 {
     if circuit_fits(s.label, s.discriminator, s.period) {
-        return choices_fit(s.own.kind, s.expected.kind, s.followlink, s.followlock);
+        let ends = ends_fit(s.own.kind, s.own.size, s.expected.kind, s.expected.size);
+        return octets::both(ends, marks_fit(s.followlink, s.followlock));
     }
     false
 }

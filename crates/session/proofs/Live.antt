@@ -17,9 +17,9 @@ use Rattle.bfd.specs.Packet.{packetOf}
 use Rattle.bfd.specs.Reception.{ccBodyRefusal}
 use Rattle.bfd.proofs.Says.{cc-behind}
 use Rattle.cv.specs.declared.MepId.{MepId}
-use Rattle.cv.specs.MepId.{mepIdAt, sameMepId}
-use Rattle.cv.specs.Cv.{mepAt, cvBodyRefusal}
-use Rattle.cv.proofs.Says.{cv-behind, part-reads}
+use Rattle.cv.specs.MepId.{sameMepId}
+use Rattle.cv.specs.Cv.{cvBodyRefusal, sourceOf}
+use Rattle.cv.proofs.Says.{cv-behind, part-source}
 use Rattle.fault.specs.declared.Fault.{Fault}
 use Rattle.fault.specs.Message.{faultRefusal, faultOf, readFault}
 use Rattle.message.specs.declared.Message.{Message}
@@ -40,7 +40,7 @@ abbrev pub ccCrosses : Session → List ℕ → Bool
 ccCrosses s m = foreign (s .settings .discriminator) (packetOf m .your)
 
 abbrev pub cvCrosses : Session → List ℕ → Bool
-cvCrosses s m = foreign (s .settings .discriminator) (packetOf m .your) || not (sameMepId (mepIdAt m (mepAt m)) (s .settings .expected))
+cvCrosses s m = foreign (s .settings .discriminator) (packetOf m .your) || not (sameMepId (sourceOf m) (s .settings .expected))
 
 -- every BFD message that is read has one answer
 cc-answer : (s : Session) (reading : ℕ) (p : Packet) → receivedAnswer s reading (receivedAs (s .settings) (ContinuityCheck p)) ≡ bfdAnswer s
@@ -71,7 +71,7 @@ module _ (s : Session) (m : List ℕ) (reading : ℕ) where
   -- and a CV's
   pub cv-refused : (n : ℕ) → n ≡ orElse (cvBodyRefusal m) (bfdAnswer s) → (n ≡ 0 → ⊥) → actedOf s n ≡ cvActed s m reading
   unfolding cvActed
-  cv-refused n e h = rw (cv-answer s reading (packetOf m) (mepIdAt m (mepAt m)), ← e, ne-eqb n 0 h)
+  cv-refused n e h = rw (cv-answer s reading (packetOf m) (sourceOf m), ← e, ne-eqb n 0 h)
 
   pub cv-crossed : orElse (cvBodyRefusal m) (bfdAnswer s) ≡ 0 → cvCrosses s m ≡ true → actedOf (crossedAt s reading) 0 ≡ cvActed s m reading
   unfolding cvActed receivedAs
@@ -197,16 +197,16 @@ module _ (s : Session) (m : List ℕ) (reading : ℕ) where
     cv-refusal-is d e = rw (header, d, e) (cv-behind m (own-channel cvChannel (eqb-true _ _ e)))
 
     cv-message-is : eqb (channelOf m) ccChannel ≡ false → eqb (channelOf m) cvChannel ≡ true → cvBodyRefusal m ≡ 0
-        → messageOf m ≡ ConnectivityVerification (packetOf m) (mepIdAt m (mepAt m))
+        → messageOf m ≡ ConnectivityVerification (packetOf m) (sourceOf m)
     unfolding messageOf
     cv-message-is d e z =
-        rw (d, e, part-reads m (cv-behind m (own-channel cvChannel (eqb-true _ _ e)) ∙ z))
+        rw (d, e, part-source m (cv-behind m (own-channel cvChannel (eqb-true _ _ e)) ∙ z))
 
     cv-agrees : eqb (channelOf m) ccChannel ≡ false → eqb (channelOf m) cvChannel ≡ true
         → BfdAgrees s (cvActed s m reading) (receivedNumber s m reading) (receivedRecord s m reading)
     unfolding cvActed
     cv-agrees d e =
-        let id = mepIdAt m (mepAt m) in
+        let id = sourceOf m in
         bfd-agrees (cvBodyRefusal m) (ConnectivityVerification (packetOf m) id) (cv-refusal-is d e) (cv-message-is d e) (cv-is-back (packetOf m) id)
 
     -- on none of the three

@@ -6,13 +6,16 @@ use mathlib.Core.List.{List, _++_}
 use Prim.Native.Nat.{ℕ, _≤_, _<_, _^_}
 use native.Mathlib.Omega.{arith}
 use lib.Dec.{eqb}
+use lib.ListN.{length, take}
 use borrow.Author.Tests.{lt-ltb, ne-eqb, eqb-true, eqb-false}
 use Rattle.octets.specs.Choice.{accepted}
 use Rattle.bfd.specs.Packet.{Sized}
 use Rattle.bfd.specs.Reception.{yourRefusal, readCc}
-use Rattle.bfd.specs.Octets.{fieldRefusal, ccFieldRefusal}
+use Rattle.bfd.specs.Octets.{packetOctets, fieldRefusal, ccFieldRefusal}
 use Rattle.bfd.proofs.RoundTrip as Bfd
+use Rattle.cv.specs.MepId.{headOctets, agiOctets, plainMep}
 use Rattle.cv.specs.Cv.{readCv, cvFieldRefusal}
+use Rattle.cv.proofs.Octets.{front-whole, cv-length}
 use Rattle.cv.proofs.RoundTrip as Cv
 use Rattle.rules.specs.States.{reported, isComingUp, downByNeighbor, stateOf}
 use Rattle.rules.specs.Diagnostics.{diagnosticOf}
@@ -21,7 +24,7 @@ use Rattle.rules.proofs.States.{reported-fits, reported-up}
 use Rattle.rules.proofs.Fitting.{SettingsSay, settings-say}
 use Rattle.conditions.specs.Standing.{anyFollowed}
 use Rattle.session.specs.declared.Session.{Session}
-use Rattle.session.specs.Queries.{lockedIn, lossAt, crossingAt, stateAt, diagnosticAt, packetAt, ccOctetsAt, cvOctetsAt}
+use Rattle.session.specs.Queries.{lockedIn, lossAt, crossingAt, stateAt, diagnosticAt, packetAt, ccOctetsAt, cvOctetsAt, cvSizeOf, cvWholeAt}
 use Rattle.session.specs.Soundness.{sessionSound, Held}
 use Rattle.session.proofs.Settling.{coming-up-before}
 use Rattle.session.proofs.Sound.{Says, sound-says}
@@ -77,7 +80,7 @@ module _ (s : Session) (clock : ℕ) (sound : sessionSound s clock ≡ true) (he
 
   cv-fits : cvFieldRefusal (packetAt s clock false) (s .settings .own) ≡ 0
   unfolding cvFieldRefusal
-  cv-fits = rw (packet-fits false, lt-ltb (s .settings .own .kind) 2 (settings .own))
+  cv-fits = rw (packet-fits false, settings .own)
 
   -- the CC that is written, read with any padding behind it
   pub cc-read-back : (pad : List ℕ) → readCc (ccOctetsAt s clock ++ pad) ≡ accepted (packetAt s clock (eqb (s .peer .owed) 1))
@@ -86,7 +89,23 @@ module _ (s : Session) (clock : ℕ) (sound : sessionSound s clock ≡ true) (he
       let fin = eqb (s .peer .owed) 1 in
       Bfd.read-written (packetAt s clock fin) pad (packet-sized fin) (cc-fits fin)
 
-  -- and the CV
-  pub cv-read-back : (pad : List ℕ) → readCv (cvOctetsAt s clock ++ pad) ≡ accepted (record { packet = packetAt s clock false; mep = s .settings .own })
+  -- and the CV, with nought where nobody's field of the MEP-ID is
+  pub cv-read-back : (pad : List ℕ) → readCv (cvOctetsAt s clock ++ pad) ≡ accepted (record { packet = packetAt s clock false; mep = plainMep (s .settings .own) })
   unfolding cvOctetsAt
   cv-read-back pad = Cv.read-written (packetAt s clock false) (s .settings .own) pad (packet-sized false) (held .own) cv-fits
+
+-- ---- of every record, sound or not
+module _ (s : Session) (clock : ℕ) where
+  -- as many octets as its own MEP-ID makes
+  pub cv-size : length (cvOctetsAt s clock) ≡ cvSizeOf s
+  unfolding cvOctetsAt
+  cv-size = cv-length (packetAt s clock false) (s .settings .own)
+
+  -- the message is the front of what the code holds
+  pub cv-front : take (cvWholeAt s clock .count) (cvWholeAt s clock .octets) ≡ cvOctetsAt s clock
+  unfolding cvOctetsAt cvWholeAt
+  cv-front = front-whole (packetAt s clock false) (s .settings .own)
+
+  pub cv-room : length (cvWholeAt s clock .octets) ≡ 78
+  unfolding cvWholeAt packetOctets headOctets agiOctets
+  cv-room = refl

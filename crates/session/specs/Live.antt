@@ -9,8 +9,7 @@ use Rattle.octets.specs.Choice.{orElse}
 use Rattle.gach.specs.Header.{faultChannel, channelOf, headerRefusal}
 use Rattle.bfd.specs.Packet.{packetOf}
 use Rattle.bfd.specs.Reception.{ccBodyRefusal}
-use Rattle.cv.specs.MepId.{mepIdAt}
-use Rattle.cv.specs.Cv.{mepAt, cvBodyRefusal}
+use Rattle.cv.specs.Cv.{cvBodyRefusal, sourceOf}
 use Rattle.fault.specs.declared.Fault.{Fault}
 use Rattle.fault.specs.Message.{faultRefusal, faultOf}
 use Rattle.message.specs.declared.Message.the-variants.{ContinuityCheck, ConnectivityVerification}
@@ -81,7 +80,7 @@ ccActed s m reading = actedBy s reading (ccBodyRefusal m) (receivedAs (s .settin
 -- a message whose header is a CV's
 unfoldable pub cvActed : Session → List ℕ → ℕ → Acted
 cvActed s m reading =
-    actedBy s reading (cvBodyRefusal m) (receivedAs (s .settings) (ConnectivityVerification (packetOf m) (mepIdAt m (mepAt m))))
+    actedBy s reading (cvBodyRefusal m) (receivedAs (s .settings) (ConnectivityVerification (packetOf m) (sourceOf m)))
 
 -- a CC or CV: its header first, then by its channel; any other message is refused 5
 unfoldable pub bfdActed : Session → List ℕ → ℕ → Acted

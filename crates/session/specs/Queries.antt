@@ -6,7 +6,8 @@ use mathlib.Core.List.{List}
 use lib.Dec.{eqb}
 use Rattle.bfd.specs.declared.Packet.{Packet}
 use Rattle.bfd.specs.Octets.{ccOctets}
-use Rattle.cv.specs.Cv.{cvOctets}
+use Rattle.cv.specs.declared.CvOctets.{CvOctets}
+use Rattle.cv.specs.Cv.{cvOctets, cvSize, cvWhole}
 use Rattle.rules.specs.declared.State.{State}
 use Rattle.rules.specs.declared.Input.the-variants.{Timer}
 use Rattle.rules.specs.Times.{past, within, detectionTime, crossingTime}
@@ -55,3 +56,11 @@ ccOctetsAt s now = ccOctets (packetAt s now (eqb (s .peer .owed) 1))
 
 unfoldable pub cvOctetsAt : Session → ℕ → List ℕ
 cvOctetsAt s now = cvOctets (packetAt s now false) (s .settings .own)
+
+-- how many octets its CV has, by its own MEP-ID: 44, or 46 to 78
+abbrev pub cvSizeOf : Session → ℕ
+cvSizeOf s = cvSize (s .settings .own)
+
+-- the CV as the code holds it
+unfoldable pub cvWholeAt : Session → ℕ → CvOctets
+cvWholeAt s now = cvWhole (packetAt s now false) (s .settings .own)

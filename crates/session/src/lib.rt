@@ -17,6 +17,7 @@ use conditions::Conditions;
 pub use queries::cc_octets_at;
 pub use queries::crossing_at;
 pub use queries::cv_octets_at;
+pub use queries::cv_size_of;
 pub use queries::diagnostic_at;
 pub use queries::is_locked;
 pub use queries::loss_at;

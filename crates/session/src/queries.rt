@@ -1,6 +1,7 @@
 // What a session's record shows at a clock.
 use crate::Session;
 use bfd::Packet;
+use cv::CvOctets;
 use gach::CC_CHANNEL;
 use octets::bit;
 use octets::both;
@@ -11,7 +12,7 @@ ghost use mathlib.Core.Path.{_≡_};
 ghost use mathlib.Core.Bool.{cond, not};
 ghost use Rattle.rules.specs.States.{moved};
 ghost use Rattle.rules.specs.declared.Input.the-variants.{Timer};
-ghost use Rattle.session.specs.Queries.{lockedIn, lossAt, crossingAt, heldAt, stateAt, reportAt, diagnosticAt, packetAt, ccOctetsAt, cvOctetsAt};
+ghost use Rattle.session.specs.Queries.{lockedIn, lossAt, crossingAt, heldAt, stateAt, reportAt, diagnosticAt, packetAt, ccOctetsAt, cvSizeOf, cvWholeAt};
 
 pub fn is_locked(s: Session) -> bool
     ensures { λ r. ⌜ r ≡ lockedIn s ⌝ }
@@ -140,9 +141,17 @@ pub fn cc_octets_at(s: Session, now: u64) -> [u8; 28]
     bfd::packet_octets(packet_at(s, now, owed), CC_CHANNEL)
 }
 
-// The 44 octets of the CV.
-pub fn cv_octets_at(s: Session, now: u64) -> [u8; 44]
-    ensures { λ r. ⌜ r ≡ cvOctetsAt s now ⌝ }
+// How many octets the CV has, by the session's own MEP-ID.
+pub fn cv_size_of(s: Session) -> usize
+    ensures { λ r. ⌜ r ≡ cvSizeOf s ⌝ }
+{
+    let own = s.settings.own;
+    28 + cv::mep_size(own)
+}
+
+// The octets of the CV, and how many they are.
+pub fn cv_octets_at(s: Session, now: u64) -> CvOctets
+    ensures { λ r. ⌜ r ≡ cvWholeAt s now ⌝ }
 {
     let own = s.settings.own;
     cv::cv_octets(packet_at(s, now, false), own)

@@ -16,7 +16,6 @@ use Rattle.octets.specs.Writing.{writing}
 use Rattle.octets.proofs.Writing.{refused, short}
 use Rattle.octets.proofs.Chain.{need-passed, bar-passed}
 use Rattle.bfd.specs.Octets.{packetOctets}
-use Rattle.cv.specs.MepId.{mepOctets}
 use Rattle.rules.specs.declared.Settings.{Settings}
 use Rattle.rules.specs.Times.{late}
 use Rattle.rules.specs.Settings.{settingsFit}
@@ -24,7 +23,8 @@ use Rattle.rules.specs.Lists.{any}
 use Rattle.rules.specs.Calls.{Act, Close, Lock, Unlock, Receive, ReportOn, WriteCc, WriteCv, Call, Tick, Open, On, Said, isAccepted, numberOnly, noReport, reporting, writes}
 use Rattle.rules.proofs.Bools.{split, no-way, forced}
 use Rattle.session.specs.declared.Session.{Session}
-use Rattle.session.specs.Queries.{reportAt, ccOctetsAt, cvOctetsAt}
+use Rattle.session.specs.Queries.{reportAt, ccOctetsAt, cvOctetsAt, cvSizeOf, cvWholeAt}
+use Rattle.session.proofs.Written.{cv-size, cv-front}
 use Rattle.session.specs.Steps.{newSession, lockedBy, unlockedAt, replySettled}
 use Rattle.table.specs.declared.Head.{Head}
 use Rattle.table.specs.Places.{firstOn, occupiedAt, withPlace, withoutPlace, lowestFree, occupiedOf, opens, hasLabel, placeOf}
@@ -36,7 +36,7 @@ use Rattle.step.specs.declared.Request.{Request}
 use Rattle.step.specs.declared.Opening.{Opening}
 use Rattle.step.specs.declared.Outcome.{Outcome}
 use Rattle.step.specs.Requests.{isRequest, requestOn, requestOf}
-use Rattle.step.specs.Saying.{saidOn, saidOf, Steps}
+use Rattle.step.specs.Saying.{cvTold, saidOn, saidOf, Steps}
 use Rattle.step.specs.Stepping.{tableOf, nowhere, isPlace, soundAnswer, answerOf, headAfter, storedAt, effectOn, toldBy, stepOf, openingAnswer, openedHead, openingOf, Obeyed, obeyAt, openAt}
 
 -- ---- the place of a label, and the record found by it
@@ -68,9 +68,10 @@ pub cc-length : (r : Session) (now : ℕ) → length (ccOctetsAt r now) ≡ 28
 unfolding ccOctetsAt packetOctets
 cc-length r now = refl
 
-pub cv-length : (r : Session) (now : ℕ) → length (cvOctetsAt r now) ≡ 44
-unfolding cvOctetsAt packetOctets mepOctets
-cv-length r now = refl
+-- the octets of the CV that a write tells
+pub cv-told : (r : Session) (now : ℕ) (l n : ℕ) → cvTold (toldBy (Request.WriteCv l n) r now) ≡ cvOctetsAt r now
+unfolding toldBy
+cv-told r now l n = cv-front r now
 
 -- writing into room that was measured before
 measured : (k : ℕ) (octets b : List ℕ) → length octets ≡ k → writing (bar (ltb (length b) k) 13 0) octets b ≡ writing 0 octets b
@@ -124,7 +125,7 @@ module _ (s : Summary) (head : Head) (r : Session) (l : ℕ) where
 
   abbrev outcomeOf : Act → Outcome
   outcomeOf a =
-      let n = soundAnswer (head .clock) (s .place) (requestOn l a) in
+      let n = soundAnswer (head .clock) (s .place) (cvSizeOf r) (requestOn l a) in
       record { head = cond (eqb n 0) (headAfter s head (requestOn l a)) head; told = toldBy (requestOn l a) r (head .clock); answer = n }
 
   write-said : (k : ℕ) (octets : List ℕ) → length octets ≡ k → (b : List ℕ)
@@ -143,10 +144,13 @@ module _ (s : Summary) (head : Head) (r : Session) (l : ℕ) where
   act-said (Receive m u) k = no-way k refl
   act-said ReportOn k = split (isPlace (s .place)) (λ f. rw f) (λ f. rw f)
   act-said (WriteCc b) k = write-said 28 (ccOctetsAt r (head .clock)) (cc-length r (head .clock)) b ∙ split (isPlace (s .place)) (λ f. rw f) (λ f. rw f)
-  act-said (WriteCv b) k = write-said 44 (cvOctetsAt r (head .clock)) (cv-length r (head .clock)) b ∙ split (isPlace (s .place)) (λ f. rw f) (λ f. rw f)
+  act-said (WriteCv b) k =
+      ap (λ (octets : List ℕ). writes (writing (need (isPlace (s .place)) 2 (bar (ltb (length b) (cvSizeOf r)) 13 0)) octets b)) (cv-told r (head .clock) l (length b))
+      ∙ write-said (cvSizeOf r) (cvOctetsAt r (head .clock)) (cv-size r (head .clock)) b
+      ∙ split (isPlace (s .place)) (λ f. rw f) (λ f. rw f)
 
   -- a buffer that is refused is so by its number
-  act-number : (a : Act) → isRequest (On l a) ≡ true → actAnswer (head .clock) foundBy l a .number ≡ soundAnswer (head .clock) (s .place) (requestOn l a)
+  act-number : (a : Act) → isRequest (On l a) ≡ true → actAnswer (head .clock) foundBy l a .number ≡ soundAnswer (head .clock) (s .place) (cvSizeOf r) (requestOn l a)
   unfolding actAnswer writing
   act-number (Close u) k = split (isPlace (s .place)) (λ f. rw f) (λ f. rw f)
   act-number (Lock u) k = split (isPlace (s .place)) (λ f. rw f) (λ f. rw f)
@@ -154,7 +158,7 @@ module _ (s : Summary) (head : Head) (r : Session) (l : ℕ) where
   act-number (Receive m u) k = no-way k refl
   act-number ReportOn k = split (isPlace (s .place)) (λ f. rw f) (λ f. rw f)
   act-number (WriteCc b) k = split (isPlace (s .place)) (λ f. rw (f, cc-length r (head .clock))) (λ f. rw f)
-  act-number (WriteCv b) k = split (isPlace (s .place)) (λ f. rw (f, cv-length r (head .clock))) (λ f. rw f)
+  act-number (WriteCv b) k = split (isPlace (s .place)) (λ f. rw (f, cv-size r (head .clock))) (λ f. rw f)
 
 -- ---- what an accepted one leaves
 module _ (row : List Session) (head : Head) (long : length row < 2 ^ 64) where
@@ -173,7 +177,7 @@ module _ (row : List Session) (head : Head) (long : length row < 2 ^ 64) where
       unfolding altered
       stored f clock = rw at
 
-      act-left : length row ≡ 64 → (a : Act) → isRequest (On l a) ≡ true → soundAnswer (head .clock) (s .place) (requestOn l a) ≡ 0
+      act-left : length row ≡ 64 → (a : Act) → isRequest (On l a) ≡ true → soundAnswer (head .clock) (s .place) (cvSizeOf r) (requestOn l a) ≡ 0
           → tableOf (set row (storedAt (s .place) (requestOn l a)) (effectOn (requestOn l a) r)) (headAfter s head (requestOn l a)) ≡ actDone (tableOf row head) l a
       unfolding actDone storedAt headAfter effectOn closed
       act-left full (Close u) k e =
@@ -188,23 +192,23 @@ module _ (row : List Session) (head : Head) (long : length row < 2 ^ 64) where
       act-left full (WriteCv b) k e = rw (kept r)
 
     -- a refusal stores nothing and moves no clock
-    no-store : (q : Request) → eqb (answerOf s head q) 0 ≡ false → (obeyAt row head s q .row ≡ row) × (obeyAt row head s q .outcome .head ≡ head)
+    no-store : (q : Request) → eqb (answerOf s head (cvSizeOf r) q) 0 ≡ false → (obeyAt row head s q .row ≡ row) × (obeyAt row head s q .outcome .head ≡ head)
     unfolding obeyAt stepOf
     no-store q z = (rw (z, kept (effectOn q r)), rw z)
 
-    obey-26 : s .sound ≡ false → (q : Request) → answerOf s head q ≡ 26
+    obey-26 : s .sound ≡ false → (q : Request) → answerOf s head (cvSizeOf r) q ≡ 26
     unfolding answerOf
     obey-26 k q = rw k
 
-    obey-number : (q : Request) → obeyAt row head s q .outcome .answer ≡ answerOf s head q
+    obey-number : (q : Request) → obeyAt row head s q .outcome .answer ≡ answerOf s head (cvSizeOf r) q
     unfolding obeyAt stepOf
     obey-number q = refl
 
-    sound-number : s .sound ≡ true → (q : Request) → answerOf s head q ≡ soundAnswer (head .clock) (s .place) q
+    sound-number : s .sound ≡ true → (q : Request) → answerOf s head (cvSizeOf r) q ≡ soundAnswer (head .clock) (s .place) (cvSizeOf r) q
     unfolding answerOf
     sound-number k q = rw k
 
-    obey-left : (q : Request) → answerOf s head q ≡ 0
+    obey-left : (q : Request) → answerOf s head (cvSizeOf r) q ≡ 0
         → tableOf (obeyAt row head s q .row) (obeyAt row head s q .outcome .head) ≡ tableOf (set row (storedAt (s .place) q) (effectOn q r)) (headAfter s head q)
     unfolding obeyAt stepOf
     obey-left q z = rw z
@@ -246,7 +250,7 @@ module _ (row : List Session) (head : Head) (long : length row < 2 ^ 64) where
           split (inOrder (tableOf row head))
           (λ k.
           let full = of-64 row head k in
-          let n : obeyAt row head s q .outcome .answer ≡ soundAnswer (head .clock) (s .place) q = obey-number q ∙ sound-number (o ∙ k) q in
+          let n : obeyAt row head s q .outcome .answer ≡ soundAnswer (head .clock) (s .place) (cvSizeOf r) q = obey-number q ∙ sound-number (o ∙ k) q in
           let found : find l (opens (head .occupied) row) ≡ foundBy s head r l = place-found l (head .occupied) row absent ∙ rw (full, at k) in
           steps-sound row head c (obeyAt row head s q) k
           (ap (saidOn l a) (whole (o ∙ k) l a) ∙ act-said s head r l a small ∙ ap (λ (f : Option Session). actAnswer (head .clock) f l a) (sym found))

@@ -5,13 +5,19 @@ use mathlib.Core.Path.{_≡_}
 use mathlib.Core.Bool.{cond}
 use mathlib.Core.List.{List}
 use lib.Dec.{eqb}
+use lib.ListN.{take}
 use Rattle.octets.specs.Writing.{writing}
 use Rattle.rules.specs.Calls.{Act, Close, Lock, Unlock, Receive, ReportOn, WriteCc, WriteCv, Call, Tick, Open, On, Said, numberOnly, reporting, writes}
 use Rattle.session.specs.declared.Session.{Session}
 use Rattle.table.specs.declared.Head.{Head}
 use Rattle.table.specs.Table.{answer, next}
+use Rattle.step.specs.declared.Told.{Told}
 use Rattle.step.specs.declared.Outcome.{Outcome}
 use Rattle.step.specs.Stepping.{tableOf, Obeyed}
+
+-- the octets of the CV that is told
+abbrev pub cvTold : Told → List ℕ
+cvTold told = take (told .cv .count) (told .cv .octets)
 
 -- what an act on a label says
 abbrev pub saidOn : ℕ → Act → Outcome → Said
@@ -21,7 +27,7 @@ saidOn l (Unlock u) o = numberOnly (On l (Unlock u)) (o .answer)
 saidOn l (Receive m u) o = numberOnly (On l (Receive m u)) (o .answer)
 saidOn l ReportOn o = cond (eqb (o .answer) 0) (reporting (o .told .report)) (numberOnly (On l ReportOn) (o .answer))
 saidOn l (WriteCc b) o = writes (writing (o .answer) (o .told .cc) b)
-saidOn l (WriteCv b) o = writes (writing (o .answer) (o .told .cv) b)
+saidOn l (WriteCv b) o = writes (writing (o .answer) (cvTold (o .told)) b)
 
 -- what a call says: its number, and of an accepted report or write what it tells
 abbrev pub saidOf : Call → Outcome → Said

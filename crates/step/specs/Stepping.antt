@@ -7,11 +7,12 @@ use mathlib.Core.List.{List}
 use lib.Dec.{eqb, ltb}
 use lib.ListN.{length, getD, set, replicate}
 use Rattle.octets.specs.Choice.{need, bar}
+use Rattle.cv.specs.declared.CvOctets.{CvOctets}
 use Rattle.rules.specs.Calls.{noReport}
 use Rattle.rules.specs.Times.{late}
 use Rattle.rules.specs.Settings.{settingsFit}
 use Rattle.session.specs.declared.Session.{Session}
-use Rattle.session.specs.Queries.{reportAt, ccOctetsAt, cvOctetsAt}
+use Rattle.session.specs.Queries.{reportAt, ccOctetsAt, cvSizeOf, cvWholeAt}
 use Rattle.session.specs.Steps.{newSession, lockedBy, unlockedAt, replySettled}
 use Rattle.table.specs.declared.Head.{Head}
 use Rattle.table.specs.Places.{lowestFree, occupiedOf, withPlace, withoutPlace}
@@ -42,18 +43,19 @@ onAnswer clock place reading = bar (late clock reading) 1 (need (isPlace place) 
 abbrev pub roomAnswer : ℕ → ℕ → ℕ → ℕ
 roomAnswer place size room = need (isPlace place) 2 (bar (ltb room size) 13 0)
 
-abbrev pub soundAnswer : ℕ → ℕ → Request → ℕ
-soundAnswer clock place (Tick u) = bar (late clock u) 1 0
-soundAnswer clock place (Close l u) = onAnswer clock place u
-soundAnswer clock place (Lock l u) = onAnswer clock place u
-soundAnswer clock place (Unlock l u) = onAnswer clock place u
-soundAnswer clock place (ReportOn l) = need (isPlace place) 2 0
-soundAnswer clock place (WriteCc l n) = roomAnswer place 28 n
-soundAnswer clock place (WriteCv l n) = roomAnswer place 44 n
+-- a CV has as many octets as the own MEP-ID of the record makes
+abbrev pub soundAnswer : ℕ → ℕ → ℕ → Request → ℕ
+soundAnswer clock place size (Tick u) = bar (late clock u) 1 0
+soundAnswer clock place size (Close l u) = onAnswer clock place u
+soundAnswer clock place size (Lock l u) = onAnswer clock place u
+soundAnswer clock place size (Unlock l u) = onAnswer clock place u
+soundAnswer clock place size (ReportOn l) = need (isPlace place) 2 0
+soundAnswer clock place size (WriteCc l n) = roomAnswer place 28 n
+soundAnswer clock place size (WriteCv l n) = roomAnswer place size n
 
 -- 26 before all
-unfoldable pub answerOf : Summary → Head → Request → ℕ
-answerOf s head q = need (s .sound) 26 (soundAnswer (head .clock) (s .place) q)
+unfoldable pub answerOf : Summary → Head → ℕ → Request → ℕ
+answerOf s head size q = need (s .sound) 26 (soundAnswer (head .clock) (s .place) size q)
 
 -- a place as the set numbers it; 64 is none
 abbrev pub setPlace : ℕ → ℕ
@@ -96,23 +98,26 @@ effectOn (ReportOn l) r = r
 effectOn (WriteCc l n) r = replySettled r
 effectOn (WriteCv l n) r = r
 
--- what is told, of the record as it was: noughts where a call tells nothing
+-- what is told, of the record as it was: noughts where a call tells nothing, of a CV 44
+abbrev pub noCv : CvOctets
+noCv = record { octets = replicate 78 0; count = 44 }
+
 abbrev pub nothingTold : Told
-nothingTold = record { report = noReport; cc = replicate 28 0; cv = replicate 44 0 }
+nothingTold = record { report = noReport; cc = replicate 28 0; cv = noCv }
 
 unfoldable pub toldBy : Request → Session → ℕ → Told
 toldBy (Tick u) r clock = nothingTold
 toldBy (Close l u) r clock = nothingTold
 toldBy (Lock l u) r clock = nothingTold
 toldBy (Unlock l u) r clock = nothingTold
-toldBy (ReportOn l) r clock = record { report = reportAt r clock; cc = replicate 28 0; cv = replicate 44 0 }
-toldBy (WriteCc l n) r clock = record { report = noReport; cc = ccOctetsAt r clock; cv = replicate 44 0 }
-toldBy (WriteCv l n) r clock = record { report = noReport; cc = replicate 28 0; cv = cvOctetsAt r clock }
+toldBy (ReportOn l) r clock = record { report = reportAt r clock; cc = replicate 28 0; cv = noCv }
+toldBy (WriteCc l n) r clock = record { report = noReport; cc = ccOctetsAt r clock; cv = noCv }
+toldBy (WriteCv l n) r clock = record { report = noReport; cc = replicate 28 0; cv = cvWholeAt r clock }
 
 -- the outcome, and where the record goes. A refusal stores nothing
 unfoldable pub stepOf : Summary → Head → Request → Session → Stepped
 stepOf s head q r =
-    let n = answerOf s head q in
+    let n = answerOf s head (cvSizeOf r) q in
     record {
       outcome = record { head = cond (eqb n 0) (headAfter s head q) head; told = toldBy q r (head .clock); answer = n };
       place = cond (eqb n 0) (storedAt (s .place) q) nowhere;

@@ -19,8 +19,9 @@ fn room_answer(place: usize, size: usize, room: usize) -> u32
     need(place < 64, 2, refuse_if(room < size, 13, 0))
 }
 
-fn sound_answer(clock: u64, place: usize, q: Request) -> u32
-    ensures { λ n. ⌜ n ≡ soundAnswer clock place q ⌝ }
+// `size` is how many octets the CV of the record has.
+fn sound_answer(clock: u64, place: usize, size: usize, q: Request) -> u32
+    ensures { λ n. ⌜ n ≡ soundAnswer clock place size q ⌝ }
 {
     match q {
         Request::Tick(u) => refuse_if(rules::is_late(clock, u), 1, 0),
@@ -29,12 +30,12 @@ fn sound_answer(clock: u64, place: usize, q: Request) -> u32
         Request::Unlock(_, u) => on_answer(clock, place, u),
         Request::ReportOn(_) => need(place < 64, 2, 0),
         Request::WriteCc(_, n) => room_answer(place, 28, n),
-        Request::WriteCv(_, n) => room_answer(place, 44, n),
+        Request::WriteCv(_, n) => room_answer(place, size, n),
     }
 }
 
-pub(crate) fn answer_to(s: Summary, head: Head, q: Request) -> u32
-    ensures { λ n. ⌜ n ≡ answerOf s head q ⌝ }
+pub(crate) fn answer_to(s: Summary, head: Head, size: usize, q: Request) -> u32
+    ensures { λ n. ⌜ n ≡ answerOf s head size q ⌝ }
 {
-    need(s.sound, 26, sound_answer(head.clock, s.place, q))
+    need(s.sound, 26, sound_answer(head.clock, s.place, size, q))
 }

@@ -4,6 +4,7 @@ use crate::Request;
 use crate::Stepped;
 use crate::Told;
 use crate::decision::answer_to;
+use cv::CvOctets;
 use rules::Report;
 use scan::Summary;
 use session::Session;
@@ -11,7 +12,7 @@ use table::Head;
 ghost use mathlib.Core.Path.{_≡_};
 ghost use mathlib.Core.Bool.{cond};
 ghost use Rattle.rules.specs.Calls.{noReport};
-ghost use Rattle.step.specs.Stepping.{setPlace, at, nowhere, nothingTold, toldBy, headAfter, storedAt, effectOn, stepOf};
+ghost use Rattle.step.specs.Stepping.{setPlace, at, nowhere, noCv, nothingTold, toldBy, headAfter, storedAt, effectOn, stepOf};
 
 // No row is that long.
 const NOWHERE: usize = 18_446_744_073_709_551_615;
@@ -94,13 +95,23 @@ fn no_report() -> Report
     }
 }
 
+// 44 octets, as many as the CV of a Section or LSP has.
+fn no_cv() -> CvOctets
+    ensures { λ r. ⌜ r ≡ noCv ⌝ }
+{
+    CvOctets {
+        octets: [0u8; 78],
+        count: 44,
+    }
+}
+
 pub fn nothing_told() -> Told
     ensures { λ r. ⌜ r ≡ nothingTold ⌝ }
 {
     Told {
         report: no_report(),
         cc: [0u8; 28],
-        cv: [0u8; 44],
+        cv: no_cv(),
     }
 }
 
@@ -115,12 +126,12 @@ fn told_by(q: Request, r: Session, clock: u64) -> Told
         Request::ReportOn(_) => Told {
             report: session::report_at(r, clock),
             cc: [0u8; 28],
-            cv: [0u8; 44],
+            cv: no_cv(),
         },
         Request::WriteCc(_, _) => Told {
             report: no_report(),
             cc: session::cc_octets_at(r, clock),
-            cv: [0u8; 44],
+            cv: no_cv(),
         },
         Request::WriteCv(_, _) => Told {
             report: no_report(),
@@ -152,7 +163,7 @@ pub fn place_if(accepted: bool, place: usize) -> usize
 pub fn step(s: Summary, head: Head, q: Request, r: Session) -> Stepped
     ensures { λ n. ⌜ n ≡ stepOf s head q r ⌝ }
 {
-    let n = answer_to(s, head, q);
+    let n = answer_to(s, head, session::cv_size_of(r), q);
     let accepted = n == 0;
     let next = head_if(accepted, head_after(s, head, q), head);
     let place = place_if(accepted, stored_at(s.place, q));

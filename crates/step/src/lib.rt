@@ -16,6 +16,7 @@ pub use arrived::met_at;
 pub use arrived::unmet;
 pub use asked::aimed_at;
 pub use asked::target;
+use cv::CvOctets;
 pub use effect::acted_by;
 pub use effect::step;
 pub use opened::opened_by;
@@ -57,7 +58,7 @@ pub struct Arrival {
 pub struct Told {
     pub report: Report,
     pub cc: [u8; 28],
-    pub cv: [u8; 44],
+    pub cv: CvOctets,
 }
 
 // What comes of a call: clock and set afterwards, what it tells, the answer.

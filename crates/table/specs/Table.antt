@@ -11,6 +11,8 @@ use lib.Dec.{eqb}
 use Rattle.octets.specs.Choice.{need, bar, orElse}
 use Rattle.octets.specs.Writing.{writing}
 use Rattle.message.specs.Message.{messageRefusal, messageOf}
+use Rattle.cv.specs.declared.MepId.{MepId}
+use Rattle.cv.specs.MepId.{noAgi}
 use Rattle.rules.specs.declared.Settings.{Settings}
 use Rattle.rules.specs.Times.{late}
 use Rattle.rules.specs.Settings.{settingsFit}
@@ -97,18 +99,22 @@ asked t (On l a) = actAnswer (t .clock) (find l (openOf t)) l a
 unfoldable pub answer : Table → Call → Said
 answer t c = cond (inOrder t) (asked t c) (numberOnly c 26)
 
+-- a MEP-ID of noughts
+abbrev noMepId : MepId
+noMepId = record { agi = noAgi; global = 0; node = 0; local = 0; kind = 0; group = 0; size = 0 }
+
 -- what lies past a row's end is never stored
 abbrev pub absent : Session
 absent =
     newSession
     (record {
+      own = noMepId;
+      expected = noMepId;
       label = 0;
       discriminator = 0;
       period = 0;
       followlink = 0;
       followlock = 0;
-      own = record { kind = 0; global = 0; node = 0; local = 0 };
-      expected = record { kind = 0; global = 0; node = 0; local = 0 };
     })
     0
 

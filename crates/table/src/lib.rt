@@ -1,6 +1,7 @@
 // The table beside its row: the clock, and the 64-bit set of occupied places.
 mod occupied;
 
+use cv::Agi;
 use cv::MepId;
 pub use occupied::is_occupied;
 pub use occupied::lowest_free;
@@ -33,18 +34,27 @@ pub fn first_head() -> Head
 pub fn absent() -> Session
     ensures { λ r. ⌜ r ≡ Table.absent ⌝ }
 {
+    let agi = Agi {
+        first: 0,
+        second: 0,
+        third: 0,
+        fourth: 0,
+    };
     let id = MepId {
-        kind: 0,
+        agi,
         global: 0,
         node: 0,
         local: 0,
+        kind: 0,
+        group: 0,
+        size: 0,
     };
     let settings = Settings {
+        own: id,
+        expected: id,
         label: 0,
         discriminator: 0,
         period: 0,
-        own: id,
-        expected: id,
         followlink: 0,
         followlock: 0,
     };

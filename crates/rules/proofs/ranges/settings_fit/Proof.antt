@@ -7,6 +7,6 @@ pub settings-fit-spec : {M : Type 1} → statement M
 unfolding settingsFit
 settings-fit-spec =
     tie.close
-    (tie.spec (λ c κs. search needs) (λ c κs. search needs)
-    (λ c. rw (c .choices-fit .ensures, ← c .before .before .circuit-fits .ensures, c .before .if1 .taken))
+    (tie.spec (λ c κs. search needs) (λ c κs. search needs) (λ c κs. search needs) (λ c κs. search needs)
+    (λ c. rw (c .both .ensures, c .before .marks-fit .ensures, c .before .before .ends-fit .ensures, ← c .before .before .before .before .circuit-fits .ensures, c .before .before .before .if1 .taken))
     (λ c. rw (← c .before .circuit-fits .ensures, c .if1 .left)))

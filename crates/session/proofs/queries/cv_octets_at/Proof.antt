@@ -1,10 +1,10 @@
-use Rattle.session.specs.Queries.{cvOctetsAt}
+use Rattle.session.specs.Queries.{cvWholeAt}
 use borrow.Author.Needs.{needs}
 use Rattle.session.proofs.queries.cv_octets_at.Statement.{statement}
 use Rattle.session.proofs.queries.cv_octets_at.Tie as tie
 
 pub cv-octets-at-spec : {M : Type 1} → statement M
-unfolding cvOctetsAt
+unfolding cvWholeAt
 cv-octets-at-spec =
     tie.close
     (tie.spec (λ c κs. search needs) (λ c κs. search needs)

@@ -9,4 +9,5 @@ nothing-told-spec =
     tie.close
     (tie.spec
     (λ c κs. search needs)
-    (λ c. rw (c .no-report .ensures)))
+    (λ c κs. search needs)
+    (λ c. rw (c .no-cv .ensures, c .before .no-report .ensures)))

@@ -16,4 +16,5 @@ step-spec =
     (λ c κs. search needs)
     (λ c κs. search needs)
     (λ c κs. search needs)
-    (λ c. rw (c .told-by .ensures, c .before .place-if .ensures, c .before .before .stored-at .ensures, c .before .before .before .head-if .ensures, c .before .before .before .before .head-after .ensures, c .before .before .before .before .before .answer-to .ensures)))
+    (λ c κs. search needs)
+    (λ c. rw (c .told-by .ensures, c .before .place-if .ensures, c .before .before .stored-at .ensures, c .before .before .before .head-if .ensures, c .before .before .before .before .head-after .ensures, c .before .before .before .before .before .answer-to .ensures, c .before .before .before .before .before .before .cv-size-of .ensures)))
