@@ -1,12 +1,13 @@
 -- A capture: a header, and records one behind the other, big-endian. What each record calls.
 -- Assumes nothing.
 use Prim.Native.Nat.{ℕ, _+_, _/_, _%_}
-use mathlib.Core.Bool.{Bool, true, false, cond, _&&_, _||_}
+use mathlib.Core.Bool.{Bool, true, false, not, cond, _&&_, _||_}
 use mathlib.Core.List.{List}
 use lib.ListN.{length, getD, take, drop, replicate}
 use lib.Dec.{eqb, ltb, leb}
 use Rattle.octets.specs.Numbers.{numberAt}
 use Rattle.cv.specs.declared.MepId.{MepId}
+use Rattle.cv.specs.MepId.{noAgi}
 use Rattle.rules.specs.declared.Settings.{Settings}
 use Rattle.rules.specs.Calls.{Act, Close, Lock, Unlock, Receive, ReportOn, WriteCc, WriteCv, Call, Tick, Open, On}
 use Rattle.capture.specs.declared.Record.{Record}
@@ -63,24 +64,33 @@ sizeOf Broken = 0
 sizeOf Short = 0
 sizeOf End = 0
 
--- a MEP-ID of a type, its 12 octets from a place on
+-- a MEP-ID of a type, its 12 octets from a place on; there is no AGI
 abbrev pub mepIn : ℕ → List ℕ → ℕ → MepId
-mepIn kind b at = record { kind = kind; global = numberAt 4 b at; node = numberAt 4 b (at + 4); local = numberAt 4 b (at + 8) }
+mepIn kind b at =
+    record {
+      agi = noAgi;
+      global = numberAt 4 b at;
+      node = numberAt 4 b (at + 4);
+      local = numberAt 4 b (at + 8);
+      kind = kind;
+      group = 0;
+      size = 0;
+    }
 
--- an open's body has 35 octets, and its marks are at most 3
-abbrev pub bodyFits : ℕ → ℕ → Bool
-bodyFits octets marks = eqb octets 35 && ltb marks 4
+-- an open's body has 35 octets, its marks are at most 3, and its type is not that of a pseudowire: 12 octets are no length of type 2
+abbrev pub bodyFits : ℕ → ℕ → ℕ → Bool
+bodyFits octets marks kind = eqb octets 35 && ltb marks 4 && not (eqb kind 2)
 
 -- the settings of an open: discriminator, period, 16-bit type, own, expected, and a byte of marks (1 link-down, 2 lock). Of another body, settings that
 -- do not fit: the discriminator is 0
 unfoldable pub settingsIn : ℕ → List ℕ → Settings
 settingsIn label b =
     record {
-      label = label;
-      discriminator = cond (bodyFits (length b) (getD b 34 0)) (numberAt 4 b 0) 0;
-      period = numberAt 4 b 4;
       own = mepIn (numberAt 2 b 8) b 10;
       expected = mepIn (numberAt 2 b 8) b 22;
+      label = label;
+      discriminator = cond (bodyFits (length b) (getD b 34 0) (numberAt 2 b 8)) (numberAt 4 b 0) 0;
+      period = numberAt 4 b 4;
       followlink = getD b 34 0 % 2;
       followlock = getD b 34 0 / 2 % 2;
     }

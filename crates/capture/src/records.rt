@@ -1,6 +1,7 @@
 // The cursor over a capture: what stands at a place, a record's body, and the settings of an open.
 use crate::Next;
 use crate::Record;
+use cv::Agi;
 use cv::MepId;
 use octets::from_place;
 use octets::get_u8;
@@ -13,6 +14,7 @@ ghost use mathlib.Core.Path.{_≡_};
 ghost use Prim.Native.Nat.{_≤_};
 ghost use mathlib.Core.Bool.{cond};
 ghost use lib.ListN.{drop};
+ghost use Rattle.cv.specs.MepId.{noAgi};
 ghost use Rattle.capture.specs.Records.{headerIs, headerFits, noRecord, recordFrom, bodyIn, isBroken, nextOf, nextIn, isWhole, mepIn, bodyFits, settingsIn};
 
 fn header_is(first: u8, second: u8, third: u8, version: u16, x: u8, y: u8, z: u8) -> bool
@@ -147,13 +149,17 @@ pub fn body_at(s: &[u8], at: usize, size: usize) -> &[u8]
     part(from_place(s, at), 16, size)
 }
 
-fn body_fits(octets: usize, marks: u8) -> bool
-    ensures { λ r. ⌜ r ≡ bodyFits octets marks ⌝ }
+// A pseudowire's MEP-ID does not go into 12 octets.
+fn body_fits(octets: usize, marks: u8, kind: u16) -> bool
+    ensures { λ r. ⌜ r ≡ bodyFits octets marks kind ⌝ }
 {
     if octets != 35 {
         return false;
     }
-    marks < 4
+    if 4 <= marks {
+        return false;
+    }
+    kind != 2
 }
 
 fn number_if(fits: bool, n: u32) -> u32
@@ -165,25 +171,44 @@ fn number_if(fits: bool, n: u32) -> u32
     0
 }
 
+fn no_agi() -> Agi
+    ensures { λ r. ⌜ r ≡ noAgi ⌝ }
+{
+    Agi {
+        first: 0,
+        second: 0,
+        third: 0,
+        fourth: 0,
+    }
+}
+
 fn own_in(kind: u16, b: &[u8]) -> MepId
     ensures { λ r. ⌜ r ≡ mepIn kind (now (b .entry)) 10 ⌝ }
 {
+    let agi = no_agi();
     MepId {
-        kind: kind,
+        agi,
         global: get_u32(b, 10),
         node: get_u32(b, 14),
         local: get_u32(b, 18),
+        kind: kind,
+        group: 0,
+        size: 0,
     }
 }
 
 fn expected_in(kind: u16, b: &[u8]) -> MepId
     ensures { λ r. ⌜ r ≡ mepIn kind (now (b .entry)) 22 ⌝ }
 {
+    let agi = no_agi();
     MepId {
-        kind: kind,
+        agi,
         global: get_u32(b, 22),
         node: get_u32(b, 26),
         local: get_u32(b, 30),
+        kind: kind,
+        group: 0,
+        size: 0,
     }
 }
 
@@ -192,18 +217,18 @@ pub fn settings_in(label: u32, b: &[u8]) -> Settings
     ensures { λ r. ⌜ r ≡ settingsIn label (now (b .entry)) ⌝ }
 {
     let marks = get_u8(b, 34);
-    let fits = body_fits(b.len(), marks);
+    let kind = get_u16(b, 8);
+    let fits = body_fits(b.len(), marks, kind);
     let discriminator = number_if(fits, get_u32(b, 0));
     let period = get_u32(b, 4);
-    let kind = get_u16(b, 8);
     let own = own_in(kind, b);
     let expected = expected_in(kind, b);
     Settings {
+        own: own,
+        expected: expected,
         label: label,
         discriminator: discriminator,
         period: period,
-        own: own,
-        expected: expected,
         followlink: marks % 2,
         followlock: marks / 2 % 2,
     }

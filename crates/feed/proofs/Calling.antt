@@ -9,11 +9,14 @@ use lib.Dec.{T as Holds, eqb, ltb}
 use lib.ListN.{length, getD, set, take, drop, replicate, length-drop}
 use lib.Seq.{drop-drop}
 use borrow.Author.Tests.{eqb-true, eqb-false, lt-ltb, le-ltb, ltb-false}
+use Rattle.octets.proofs.Chain.{need-passed, bar-passed}
+use Rattle.cv.proofs.Forms.{length-within}
 use Rattle.rules.specs.Calls.{Act, Close, Lock, Unlock, Receive, ReportOn, WriteCc, WriteCv, Call, Tick, Open, On, Said, writes, numberOnly}
 use Rattle.rules.specs.Lists.{any}
 use Rattle.rules.proofs.Bools.{split, no-way}
 use Rattle.session.specs.declared.Session.{Session}
-use Rattle.session.specs.Queries.{ccOctetsAt, cvOctetsAt}
+use Rattle.session.specs.Queries.{ccOctetsAt, cvSizeOf, cvWholeAt}
+use Rattle.session.proofs.Written.{cv-room}
 use Rattle.table.specs.declared.Head.{Head}
 use Rattle.table.specs.Places.{opens, placeOf, firstHit}
 use Rattle.table.specs.Hints.{Placed, placedBy}
@@ -25,11 +28,11 @@ use Rattle.step.specs.declared.Opening.{Opening}
 use Rattle.step.specs.declared.Arrival.{Arrival}
 use Rattle.step.specs.declared.Outcome.{Outcome}
 use Rattle.step.specs.Requests.{isRequest, requestOn, requestOf}
-use Rattle.step.specs.Stepping.{tableOf, Obeyed, stepOf, toldBy, openingOf, obeyAt, openAt}
+use Rattle.step.specs.Stepping.{tableOf, isPlace, answerOf, Obeyed, stepOf, toldBy, openingOf, obeyAt, openAt}
 use Rattle.step.specs.AtPlace.{atPlace}
 use Rattle.step.specs.Arriving.{messageIn, receiveAt, metAt}
 use Rattle.step.specs.Saying.{saidOf, Steps}
-use Rattle.step.proofs.TableStep.{of-64, cc-length, cv-length, tick-steps, act-steps, open-steps}
+use Rattle.step.proofs.TableStep.{of-64, cc-length, tick-steps, act-steps, open-steps}
 use Rattle.step.proofs.Arriving.{receive-steps}
 use Rattle.session.specs.Live.{isFault}
 use Rattle.capture.specs.declared.Record.{Record}
@@ -38,7 +41,7 @@ use Rattle.feed.specs.declared.Fed.{Fed}
 use Rattle.feed.specs.Calling.{bodyAt, openingIn, rivalSeen, soughtIn, seenAt, bodyFrom, arrivalIn, requestIn, Whole, Calls}
 
 -- ---- what can be told has its length
-told-whole : (q : Request) (r : Session) (clock : ℕ) → (length (toldBy q r clock .cc) ≡ 28) × (length (toldBy q r clock .cv) ≡ 44)
+told-whole : (q : Request) (r : Session) (clock : ℕ) → (length (toldBy q r clock .cc) ≡ 28) × (length (toldBy q r clock .cv .octets) ≡ 78)
 unfolding toldBy
 told-whole (Request.Tick u) r clock = (refl, refl)
 told-whole (Request.Close l u) r clock = (refl, refl)
@@ -46,22 +49,67 @@ told-whole (Request.Lock l u) r clock = (refl, refl)
 told-whole (Request.Unlock l u) r clock = (refl, refl)
 told-whole (Request.ReportOn l) r clock = (refl, refl)
 told-whole (Request.WriteCc l n) r clock = (cc-length r clock, refl)
-told-whole (Request.WriteCv l n) r clock = (refl, cv-length r clock)
+told-whole (Request.WriteCv l n) r clock = (refl, cv-room r clock)
 
-obey-whole : (row : List Session) (head : Head) (s : Summary) (q : Request) → Whole (obeyAt row head s q .outcome)
+-- the room that a CV is given
+abbrev roomOf : Request → ℕ
+roomOf (Request.Tick u) = 0
+roomOf (Request.Close l u) = 0
+roomOf (Request.Lock l u) = 0
+roomOf (Request.Unlock l u) = 0
+roomOf (Request.ReportOn l) = 0
+roomOf (Request.WriteCc l n) = 0
+roomOf (Request.WriteCv l n) = n
+
+-- no CV is shorter than 44 octets: one that goes into 44 has as many
+told-count : (s : Summary) (head : Head) (q : Request) (r : Session) → roomOf q ≤ 44 → answerOf s head (cvSizeOf r) q ≡ 0 → toldBy q r (head .clock) .cv .count ≡ 44
+unfolding toldBy answerOf cvWholeAt
+told-count s head (Request.Tick u) r h e = refl
+told-count s head (Request.Close l u) r h e = refl
+told-count s head (Request.Lock l u) r h e = refl
+told-count s head (Request.Unlock l u) r h e = refl
+told-count s head (Request.ReportOn l) r h e = refl
+told-count s head (Request.WriteCc l n) r h e = refl
+told-count s head (Request.WriteCv l n) r h e =
+    let a = need-passed (s .sound) 25 _ e in
+    let b = need-passed (isPlace (s .place)) 1 _ (a .1) in
+    let c = bar-passed (ltb n (cvSizeOf r)) 12 0 (b .1) in
+    omega (arith, h, ltb-false n (cvSizeOf r) (c .0), length-within (r .settings .own .kind) (r .settings .own .size) .0)
+
+obey-whole : (row : List Session) (head : Head) (s : Summary) (q : Request) → roomOf q ≤ 44 → Whole (obeyAt row head s q .outcome)
 unfolding obeyAt stepOf
-obey-whole row head s q = told-whole q (getD row (s .place) absent) (head .clock)
+obey-whole row head s q h =
+    let r = getD row (s .place) absent in
+    let w = told-whole q r (head .clock) in
+    (w .0, w .1, told-count s head q r h)
+
+-- a capture gives 44
+room-in : (r : Record) → roomOf (requestIn r) ≤ 44
+room-in r =
+    split (eqb (r .kind) 0)
+    (λ a. rw a (omega arith))
+    (λ a. split (eqb (r .kind) 2)
+    (λ b. rw (a, b) (omega arith))
+    (λ b. split (eqb (r .kind) 3)
+    (λ c. rw (a, b, c) (omega arith))
+    (λ c. split (eqb (r .kind) 4)
+    (λ d. rw (a, b, c, d) (omega arith))
+    (λ d. split (eqb (r .kind) 6)
+    (λ e. rw (a, b, c, d, e) (omega arith))
+    (λ e. split (eqb (r .kind) 7)
+    (λ f. rw (a, b, c, d, e, f) (omega arith))
+    (λ f. rw (a, b, c, d, e, f) (omega arith)))))))
 
 open-whole : (row : List Session) (head : Head) (s : Summary) (g : Opening) → Whole (openAt row head s g .outcome)
 unfolding openAt openingOf
-open-whole row head s g = (refl, refl)
+open-whole row head s g = (refl, refl, λ e. refl)
 
 receive-whole : (row : List Session) (x : Arrival) (m : List ℕ) → Whole (receiveAt row x m .outcome)
 unfolding receiveAt atPlace
 receive-whole row x m =
     split (isFault (messageIn x m))
-    (λ f. split (ltb (metAt x) (length row)) (λ e. rw (f, e) (refl, refl)) (λ e. rw (f, e) (refl, refl)))
-    (λ f. split (ltb (metAt x) (length row)) (λ e. rw (f, e) (refl, refl)) (λ e. rw (f, e) (refl, refl)))
+    (λ f. split (ltb (metAt x) (length row)) (λ e. rw (f, e) (refl, refl, λ z. refl)) (λ e. rw (f, e) (refl, refl, λ z. refl)))
+    (λ f. split (ltb (metAt x) (length row)) (λ e. rw (f, e) (refl, refl, λ z. refl)) (λ e. rw (f, e) (refl, refl, λ z. refl)))
 
 -- ---- a kind that is one is no other
 other : (k a b : ℕ) → eqb k a ≡ true → eqb a b ≡ false → eqb k b ≡ false
@@ -147,9 +195,9 @@ module _ (row : List Session) (f : Fed) (r : Record) (input : List ℕ) (sound :
         (λ z.
         let w : requestIn r ≡ requestOf (Tick (r .time)) = rw z in
         both-same o zs (obeyAt row (f .head) v (requestOf (Tick (r .time)))) (now ∙ ap (obeyAt row (f .head) v) w) (callOf r (bodyAt input f r))
-        (subst (λ (c : Call). Steps row (f .head) c (obeyAt row (f .head) v (requestOf (Tick (r .time))))) (sym (tick-is z)) (tick-steps row (f .head) long v mark (r .time)), obey-whole row (f .head) v (requestOf (Tick (r .time)))))
+        (subst (λ (c : Call). Steps row (f .head) c (obeyAt row (f .head) v (requestOf (Tick (r .time))))) (sym (tick-is z)) (tick-steps row (f .head) long v mark (r .time)), obey-whole row (f .head) v (requestOf (Tick (r .time))) (omega arith)))
         (λ z.
         let a = actOf (r .kind) (bodyAt input f r) (r .time) in
         let w = small-act z k₅ in
         both-same o zs (obeyAt row (f .head) v (requestOn (r .label) a)) (now ∙ ap (obeyAt row (f .head) v) (w .1)) (callOf r (bodyAt input f r))
-        (subst (λ (c : Call). Steps row (f .head) c (obeyAt row (f .head) v (requestOn (r .label) a))) (sym (act-is z k₁)) (act-steps row (f .head) long v mark (r .label) a (w .0) (placed z)), obey-whole row (f .head) v (requestOn (r .label) a)))
+        (subst (λ (c : Call). Steps row (f .head) c (obeyAt row (f .head) v (requestOn (r .label) a))) (sym (act-is z k₁)) (act-steps row (f .head) long v mark (r .label) a (w .0) (placed z)), obey-whole row (f .head) v (requestOn (r .label) a) (subst (λ (y : Request). roomOf y ≤ 44) (w .1) (room-in r))))

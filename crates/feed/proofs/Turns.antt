@@ -6,7 +6,8 @@ use Prim.Native.Nat.{ℕ, zero, suc, _^_, _<_, _≤_, _+_, _-_}
 use mathlib.Core.List.{List}
 use native.Mathlib.Omega.{arith}
 use lib.Dec.{T as Holds, eqb, ltb, leb, nltb→le}
-use lib.ListN.{length, drop, replicate, length-drop}
+use lib.ListN.{length, take, drop, replicate, length-drop}
+use lib.Seq.{length-take-le}
 use borrow.Author.Tests.{eqb-true, eqb-false, ne-eqb, le-ltb, leb-true, leb-false}
 use Rattle.octets.specs.Writing.{writing}
 use Rattle.octets.proofs.Writing.{refused}
@@ -19,7 +20,7 @@ use Rattle.table.specs.Table.{Table, inOrder, answer, next}
 use Rattle.table.proofs.Order.{order-same}
 use Rattle.step.specs.declared.Outcome.{Outcome}
 use Rattle.step.specs.Stepping.{tableOf, Obeyed}
-use Rattle.step.specs.Saying.{saidOf, Steps}
+use Rattle.step.specs.Saying.{cvTold, saidOf, Steps}
 use Rattle.capture.specs.declared.Record.{Record}
 use Rattle.capture.specs.declared.Next.the-variants.{Whole, Broken, Short, End}
 use Rattle.capture.specs.Records.{recordIn, recordFrom, bodyIn, settingsIn, actOf, callOf, callIn, nextIn, nextOf, isBroken, isWhole, sizeOf}
@@ -104,7 +105,7 @@ module _ (number : ℕ) (o : Outcome) (n : Lengths o) where
   refused-said (On l (Receive m u)) z = refl
   refused-said (On l ReportOn) z = rw z
   refused-said (On l (WriteCc b)) z = ap (λ (a : Said). a .number) (ap writes (refused (o .told .cc) b (o .answer) (eqb-false (o .answer) 0 z)))
-  refused-said (On l (WriteCv b)) z = ap (λ (a : Said). a .number) (ap writes (refused (o .told .cv) b (o .answer) (eqb-false (o .answer) 0 z)))
+  refused-said (On l (WriteCv b)) z = ap (λ (a : Said). a .number) (ap writes (refused (cvTold (o .told)) b (o .answer) (eqb-false (o .answer) 0 z)))
 
   -- a refusal with no place is its number
   refused-line : (c : Call) → eqb (o .answer) 0 ≡ false → hasPlace c (o .answer) ≡ false → plainLine number (o .answer) ≡ line number c (saidOf c o)
@@ -125,8 +126,13 @@ module _ (number : ℕ) (o : Outcome) (n : Lengths o) where
   cc-said : (l : ℕ) → eqb (o .answer) 0 ≡ true → saidOf (On l (WriteCc (replicate 28 0))) o ≡ writes (record { answer = 0; buffer = o .told .cc })
   cc-said l z = ap writes (ap (λ (k : ℕ). writing k (o .told .cc) (replicate 28 0)) (eqb-true (o .answer) 0 z) ∙ written (o .told .cc) (replicate 28 0) (sym (n .0)))
 
-  cv-said : (l : ℕ) → eqb (o .answer) 0 ≡ true → saidOf (On l (WriteCv (replicate 44 0))) o ≡ writes (record { answer = 0; buffer = o .told .cv })
-  cv-said l z = ap writes (ap (λ (k : ℕ). writing k (o .told .cv) (replicate 44 0)) (eqb-true (o .answer) 0 z) ∙ written (o .told .cv) (replicate 44 0) (sym (n .1)))
+  cv-said : (l : ℕ) → eqb (o .answer) 0 ≡ true → saidOf (On l (WriteCv (replicate 44 0))) o ≡ writes (record { answer = 0; buffer = take 44 (o .told .cv .octets) })
+  cv-said l z =
+      let e = eqb-true (o .answer) 0 z in
+      let octets = o .told .cv .octets in
+      ap (λ (k : ℕ). writes (writing (o .answer) (take k octets) (replicate 44 0))) (n .2 e)
+      ∙ ap (λ (k : ℕ). writes (writing k (take 44 octets) (replicate 44 0))) e
+      ∙ ap writes (written (take 44 octets) (replicate 44 0) (sym (length-take-le 44 octets (omega (arith, n .1)))))
 
   report-line : (l : ℕ) → eqb (o .answer) 0 ≡ true → reportLine number (o .told .report) ≡ line number (On l ReportOn) (saidOf (On l ReportOn) o)
   report-line l z =
@@ -138,10 +144,10 @@ module _ (number : ℕ) (o : Outcome) (n : Lengths o) where
       let c = On l (WriteCc (replicate 28 0)) in
       sym (ap (line number c) (cc-said l z) ∙ line-cc number l (writes (record { answer = 0; buffer = o .told .cc })) refl (replicate 28 0))
 
-  cv-line : (l : ℕ) → eqb (o .answer) 0 ≡ true → octetsLine number (o .told .cv) ≡ line number (On l (WriteCv (replicate 44 0))) (saidOf (On l (WriteCv (replicate 44 0))) o)
+  cv-line : (l : ℕ) → eqb (o .answer) 0 ≡ true → octetsLine number (take 44 (o .told .cv .octets)) ≡ line number (On l (WriteCv (replicate 44 0))) (saidOf (On l (WriteCv (replicate 44 0))) o)
   cv-line l z =
       let c = On l (WriteCv (replicate 44 0)) in
-      sym (ap (line number c) (cv-said l z) ∙ line-cv number l (writes (record { answer = 0; buffer = o .told .cv })) refl (replicate 44 0))
+      sym (ap (line number c) (cv-said l z) ∙ line-cv number l (writes (record { answer = 0; buffer = take 44 (o .told .cv .octets) })) refl (replicate 44 0))
 
   module _ (r : Record) (body : List ℕ) where
     abbrev c : Call

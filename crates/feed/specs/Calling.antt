@@ -5,7 +5,7 @@ use mathlib.Core.Path.{_≡_}
 use mathlib.Core.Bool.{Bool, cond, false, _&&_}
 use mathlib.Core.List.{List}
 use lib.Dec.{eqb, ltb, leb}
-use lib.ListN.{length, drop}
+use lib.ListN.{length, take, drop}
 use Rattle.message.specs.Message.{messagePlace}
 use Rattle.session.specs.declared.Session.{Session}
 use Rattle.table.specs.Table.{inOrder}
@@ -65,9 +65,9 @@ requestIn r =
 unfoldable pub actAt : List Session → ℕ → Bool → Fed → Record → List ℕ → Obeyed
 actAt row place sound f r input = cond (eqb (r .kind) 5) (receiveAt row (arrivalIn f r place sound) input) (obeyAt row (f .head) (seenAt place sound) (requestIn r))
 
--- the octets that can be told have their lengths
+-- the octets that can be told have their lengths; a CV that was written into 44 octets has 44
 abbrev pub Whole : Outcome → Type 0
-Whole o = (length (o .told .cc) ≡ 28) × (length (o .told .cv) ≡ 44)
+Whole o = (length (o .told .cc) ≡ 28) × (length (o .told .cv .octets) ≡ 78) × (o .answer ≡ 0 → o .told .cv .count ≡ 44)
 
 -- where it is known of a row whether it is in order, and a record's 16 octets stand in the input, its call is the table's step. Lengths are those that a machine can hold
 abbrev pub Calls : List Session → Fed → Record → List ℕ → Bool → Outcome → List Session → Type 0
@@ -75,10 +75,10 @@ Calls row f r input sound o zs =
     sound ≡ inOrder (tableOf row (f .head)) → f .used + 16 ≤ length input → length input < 2 ^ 64 → length row < 2 ^ 64
     → Steps row (f .head) (callOf r (bodyAt input f r)) (record { outcome = o; row = zs }) × Whole o
 
--- kind 6 tells its report, 7 and 8 their octets
+-- kind 6 tells its report, 7 and 8 their octets: an accepted CV of a capture has 44
 abbrev pub toldLine : ℕ → ℕ → Told → List ℕ
 toldLine number kind told =
-    cond (eqb kind 6) (reportLine number (told .report)) (cond (eqb kind 7) (octetsLine number (told .cc)) (octetsLine number (told .cv)))
+    cond (eqb kind 6) (reportLine number (told .report)) (cond (eqb kind 7) (octetsLine number (told .cc)) (octetsLine number (take 44 (told .cv .octets))))
 
 -- the line of an accepted call: a report or a write tells something
 abbrev pub acceptedLine : ℕ → ℕ → Told → List ℕ

@@ -11,6 +11,7 @@ use capture::put_written;
 use capture::record_at;
 use message::place_of;
 use octets::both;
+use octets::part;
 use step::Outcome;
 use step::Told;
 ghost use mathlib.Core.Path.{_≡_};
@@ -72,7 +73,8 @@ fn number_after(n: u64) -> u64
     n
 }
 
-// Kind 6 tells its report, 7 and 8 their octets.
+// Kind 6 tells its report, 7 and 8 their octets. A CV that goes into the 44 octets of a capture has
+// as many.
 fn put_told(out: &mut [u8], at: usize, number: u64, kind: u16, told: Told) -> usize
     ensures { λ n. ⌜ record { buffer = now (out .exit); at = n } ≡ typed (record { buffer = now (out .entry); at = at }) (toldLine number kind told) ⌝ }
 {
@@ -84,8 +86,8 @@ fn put_told(out: &mut [u8], at: usize, number: u64, kind: u16, told: Told) -> us
         let octets = told.cc;
         return put_written(out, at, number, &octets);
     }
-    let octets = told.cv;
-    put_written(out, at, number, &octets)
+    let whole = told.cv.octets;
+    put_written(out, at, number, part(&whole, 0, 44))
 }
 
 // A message that its reader refuses.

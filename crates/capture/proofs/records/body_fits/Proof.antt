@@ -9,4 +9,5 @@ body-fits-spec =
     tie.close
     (tie.spec
     (λ c. search tests)
+    (λ c. search tests)
     (λ c. search tests))

@@ -11,4 +11,5 @@ own-in-spec =
     (λ c κs. search needs)
     (λ c κs. search needs)
     (λ c κs. search needs)
-    (λ c. rw (c .get-u323 .ensures, c .before .get-u322 .ensures, c .before .before .get-u32 .ensures)))
+    (λ c κs. search needs)
+    (λ c. rw (c .get-u323 .ensures, c .before .get-u322 .ensures, c .before .before .get-u32 .ensures, c .before .before .before .no-agi .ensures)))

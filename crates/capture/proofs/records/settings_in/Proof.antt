@@ -18,4 +18,4 @@ settings-in-spec =
     (λ c κs. search needs)
     (λ c κs. search needs)
     (λ c κs. search needs)
-    (λ c. rw (c .expected-in .ensures, c .before .own-in .ensures, c .before .before .get-u16 .ensures, c .before .before .before .get-u322 .ensures, c .before .before .before .before .number-if .ensures, c .before .before .before .before .before .get-u32 .ensures, c .before .before .before .before .before .before .body-fits .ensures, c .before .before .before .before .before .before .before .get-u8 .ensures)))
+    (λ c. rw (c .expected-in .ensures, c .before .own-in .ensures, c .before .before .get-u322 .ensures, c .before .before .before .number-if .ensures, c .before .before .before .before .get-u32 .ensures, c .before .before .before .before .before .body-fits .ensures, c .before .before .before .before .before .before .get-u16 .ensures, c .before .before .before .before .before .before .before .get-u8 .ensures)))

@@ -18,5 +18,6 @@ put-told-spec =
     (λ c. rw (ne-eqb (c .before .before .before .before .before .before .before .before .before .args .kind) 6 (c .before .before .before .before .before .before .before .if1 .left), eq-eqb (c .before .before .before .before .before .before .before .before .before .args .kind) 7 (c .before .before .before .before .before .before .if2 .taken)) (c .before .before .put-written .ensures))
     (λ c. search needs)
     (λ c κs. search needs)
+    (λ c κs. search needs)
     (λ c. search needs)
-    (λ c. rw (ne-eqb (c .before .before .before .before .before .before .before .before .before .args .kind) 6 (c .before .before .before .before .before .before .before .if1 .left), ne-eqb (c .before .before .before .before .before .before .before .before .before .args .kind) 7 (c .before .before .before .before .before .before .if2 .left)) (c .before .before .put-written2 .ensures)))
+    (λ c. rw (ne-eqb (c .before .before .before .before .before .before .before .before .before .before .args .kind) 6 (c .before .before .before .before .before .before .before .before .if1 .left), ne-eqb (c .before .before .before .before .before .before .before .before .before .before .args .kind) 7 (c .before .before .before .before .before .before .before .if2 .left), ← c .before .before .before .part .ensures) (c .before .before .put-written2 .ensures)))
