@@ -1,7 +1,8 @@
 /*
  * What crosses between a host and the library, held to this header from outside: the version, every
  * field of a record and of a message at its place, where each reader says that a message went wrong,
- * each mark and each number that a writer must refuse, and rows of another length lent to each call.
+ * each mark and each number that a writer must refuse, MEP-IDs of every form, and rows of another length
+ * lent to each call.
  * hosts/run compares what is printed with hosts/timeline-boundary.
  */
 #include <inttypes.h>
@@ -19,21 +20,36 @@ static void need(int holds, const char *what) {
 }
 
 static void check_version(void) {
-    need(KORVEZUL_VERSION == 0x030000, "version of the header");
+    need(KORVEZUL_VERSION == 0x040000, "version of the header");
     need(korvezul_version() == KORVEZUL_VERSION, "version of the library");
     printf("version %d.%d.%d: header and library agree\n", KORVEZUL_VERSION_MAJOR, KORVEZUL_VERSION_MINOR,
            KORVEZUL_VERSION_PATCH);
 }
 
-/* Every field of a record, as the library stored it, read through the header: a session that is
- * opened, hears a CC, takes an LKR and is crossed, with values that tell the fields apart. */
+/* Every field of a record, as the library stored it, read through the header: a session of a
+ * pseudowire that is opened, hears a CC, takes an LKR and is crossed, with values that tell the fields
+ * apart. */
 static struct korvezul_session row[KORVEZUL_RECORDS];
 static struct korvezul_head head;
-static const struct korvezul_settings told = {0x11121,
+static const struct korvezul_settings told = {{{UINT64_C(0x8081828384858687), UINT64_C(0x88898a8b8c8d8e8f),
+                                                UINT64_C(0x9091929394959697), UINT64_C(0x98999a9b9c9d9e9f)},
+                                               0x41424344,
+                                               0x45464748,
+                                               0x494a4b4c,
+                                               KORVEZUL_PSEUDOWIRE,
+                                               0x4d,
+                                               32},
+                                              {{UINT64_C(0xa0a1a2a3a4a5a6a7), UINT64_C(0xa8a9aaabacadaeaf),
+                                                UINT64_C(0xb0b1b2b3b4b5b6b7), UINT64_C(0xb8b9babbbcbdbebf)},
+                                               0x51525354,
+                                               0x55565758,
+                                               0x595a5b5c,
+                                               KORVEZUL_PSEUDOWIRE,
+                                               0x5d,
+                                               31},
+                                              0x11121,
                                               0x21222324,
                                               0x313233,
-                                              {1, 0x41424344, 0x45464748, 0x494a4b4c},
-                                              {1, 0x51525354, 0x55565758, 0x595a5b5c},
                                               1,
                                               0};
 
@@ -97,18 +113,17 @@ static void check_octets(void) {
                                              0x06, 2, 4, 0x39, 0x3a, 0x3b, 0x3c};
     struct korvezul_packet p = {0x01020304, 0x05060708, 0x090a0b0c, 0x0d0e0f10, 0x11121314, 0x1f,
                                 2,          0x15,       1,          0,          1,          0};
-    struct korvezul_mep_id id = {1, 0x21222324, 0x25262728, 0x292a2b2c};
+    struct korvezul_mep_id id = {{0}, 0x21222324, 0x25262728, 0x292a2b2c, KORVEZUL_LSP, 0, 0};
     struct korvezul_fault f = {0x31323334, 0x35363738, 0, 2, 1, 0, 0x14, 1, 0},
                           r = {0, 0, 0x393a3b3c, 1, 0, 1, 5, 0, 1};
     struct korvezul_cv_read v = korvezul_read_cv(cv_octets, sizeof cv_octets);
     struct korvezul_fault_read w = korvezul_read_fault(fault_octets, sizeof fault_octets);
     uint8_t m[KORVEZUL_CV_OCTETS];
     need(korvezul_write_cv_message(m, sizeof m, p, id) == 0 && memcmp(m, cv_octets, 44) == 0, "CV written");
-    need(v.answer == 0 && v.place == 44 && v.part == 28 &&
+    need(v.answer == 0 && v.place == 44 && v.part == 28 && v.part_octets == 16 &&
              memcmp(&v.packet, &p, offsetof(struct korvezul_packet, demand) + 1) == 0,
          "packet read");
-    need(v.mep.kind == 1 && v.mep.global == id.global && v.mep.node == id.node && v.mep.local == id.local,
-         "MEP-ID read");
+    need(memcmp(&v.mep, &id, sizeof id) == 0, "MEP-ID read");
     need(korvezul_write_fault_message(m, 19, f) == 0 && memcmp(m, fault_octets, 19) == 0, "LKR written");
     need(w.answer == 0 && w.place == 19 &&
              memcmp(&w.fault, &f, offsetof(struct korvezul_fault, has_global_id) + 1) == 0,
@@ -119,6 +134,65 @@ static void check_octets(void) {
     p.final = p.demand = 1;
     need(korvezul_write_cc_message(m, sizeof m, p) == 0 && m[5] == 0xd2, "F and D");
     printf("every field of a message becomes its octets, and reads back\n");
+}
+
+/* A pseudowire with an AGI of n octets: its octets, type to end, and what they are read to. */
+static size_t pseudowire_octets(uint8_t *o, uint8_t n) {
+    static const uint8_t value[] = {0x21, 0x22, 0x23, 0x24, 0x25, 0x26, 0x27,
+                                    0x28, 0x29, 0x2a, 0x2b, 0x2c, 9};
+    o[0] = o[2] = 0;
+    o[1] = KORVEZUL_PSEUDOWIRE;
+    o[3] = (uint8_t)(14 + n);
+    memcpy(o + 4, value, sizeof value);
+    o[17] = n;
+    for (uint8_t i = 0; i < n; i++)
+        o[18 + i] = (uint8_t)(0x61 + i);
+    return 18u + n;
+}
+
+static void need_pseudowire(const struct korvezul_mep_id *id, uint8_t n) {
+    need(id->global == 0x21222324 && id->node == 0x25262728 && id->local == 0x292a2b2c,
+         "numbers of a MEP-ID");
+    need(id->kind == KORVEZUL_PSEUDOWIRE && id->agi_type == 9 && id->agi_length == n, "type and AGI length");
+    for (unsigned i = 0; i < 32; i++)
+        need((uint8_t)(id->agi[i / 8] >> (56 - 8 * (i % 8))) == (i < n ? 0x61 + i : 0), "octet of an AGI");
+}
+
+/* Its CV, from a writer of messages and from a session: one octet less is too few, and no more is
+ * touched. What stands in the struct behind the AGI is not written. */
+static void check_pseudowire(uint8_t n) {
+    const struct korvezul_packet p = {.my = 1, .multiplier = 3};
+    uint8_t o[50], m[KORVEZUL_CV_OCTETS + 1];
+    size_t part = pseudowire_octets(o, n), size = 28 + part;
+    struct korvezul_mep_id_read r = korvezul_read_mep_id(o, part);
+    struct korvezul_settings s = {.label = 100, .discriminator = 17, .period = 1000000};
+    struct korvezul_cv_read v;
+    need(r.answer == 0, "MEP-ID alone");
+    need_pseudowire(&r.mep, n);
+    for (unsigned i = n; i < 32; i++)
+        r.mep.agi[i / 8] |= UINT64_C(0xee) << (56 - 8 * (i % 8));
+    s.own = r.mep; /* and what is expected is a Section: the two may differ */
+    memset(m, 0xa5, sizeof m);
+    need(korvezul_write_cv_message(m, size - 1, p, r.mep) == KORVEZUL_BUFFER && m[0] == 0xa5, "CV too long");
+    need(korvezul_write_cv_message(m, sizeof m, p, r.mep) == 0, "CV of a pseudowire");
+    need(memcmp(m + 28, o, part) == 0 && m[size] == 0xa5, "octets of a MEP-ID");
+    v = korvezul_read_cv(m, sizeof m);
+    need(v.answer == 0 && v.place == size && v.part == 28 && v.part_octets == part,
+         "CV of a pseudowire read");
+    need_pseudowire(&v.mep, n);
+    need(korvezul_empty(row, KORVEZUL_RECORDS, &head) == 0, "empty");
+    need(korvezul_open(row, KORVEZUL_RECORDS, &head, s, 0) == 0, "pseudowire opened");
+    memset(m, 0xa5, sizeof m);
+    need(korvezul_write_cv(row, KORVEZUL_RECORDS, &head, 100, m, size - 1) == KORVEZUL_BUFFER && m[0] == 0xa5,
+         "CV of a session, too long");
+    need(korvezul_write_cv(row, KORVEZUL_RECORDS, &head, 100, m, size) == 0, "CV of a session");
+    need(memcmp(m + 28, o, part) == 0 && m[size] == 0xa5, "octets of a session's MEP-ID");
+}
+
+static void check_pseudowires(void) {
+    for (uint8_t n = 0; n <= 32; n++)
+        check_pseudowire(n);
+    printf("pseudowires with an AGI of 0 to 32 octets: CVs of 46 to 78\n");
 }
 
 static void print_octets(const char *name, uint32_t answer, const uint8_t *o, size_t n) {
@@ -140,7 +214,7 @@ static void written(void) {
                                 .state = 2,
                                 .multiplier = 0x15};
     struct korvezul_mep_id section = {
-        .kind = 0, .global = 0x21222324, .node = 0x25262728, .local = 0x292a2b2c};
+        .kind = KORVEZUL_SECTION, .global = 0x21222324, .node = 0x25262728, .local = 0x292a2b2c};
     struct korvezul_fault f = {.node = 0x31323334,
                                .interface_number = 0x35363738,
                                .global = 0x393a3b3c,
@@ -156,7 +230,8 @@ static void written(void) {
         print_octets(names[i], korvezul_write_cc_message(m, sizeof m, p), m, KORVEZUL_CC_OCTETS);
         *flags[i] = 0;
     }
-    print_octets("CV of a Section", korvezul_write_cv_message(m, sizeof m, p, section), m,
+    print_octets("CV of a Section", korvezul_write_cv_message(m, sizeof m, p, section), m, 44);
+    print_octets("CV of a pseudowire", korvezul_write_cv_message(m, sizeof m, p, told.own), m,
                  KORVEZUL_CV_OCTETS);
     f.link_down = 1;
     print_octets("AIS with L", korvezul_write_fault_message(m, sizeof m, f), m, KORVEZUL_FAULT_OCTETS);
@@ -182,9 +257,22 @@ static void place(uint32_t answer, uint64_t at, const void *fields, size_t n) {
     printf(" %" PRIu32 "/%" PRIu64, answer, at);
 }
 
+static void cv_places(struct korvezul_packet p, struct korvezul_mep_id id, size_t n, uint8_t value) {
+    uint8_t m[KORVEZUL_CV_OCTETS], o[KORVEZUL_CV_OCTETS + 3];
+    need(korvezul_write_cv_message(m, n, p, id) == 0, "CV");
+    for (size_t i = 0; i <= n; i++) {
+        struct korvezul_cv_read r = korvezul_read_cv(padded(m, n, o, i, value), n + 3);
+        need(r.answer == 0 || (r.part == 0 && r.part_octets == 0), "part beside a refusal");
+        place(r.answer, r.place, &r.packet, offsetof(struct korvezul_packet, demand) + 1);
+        for (size_t k = 0; r.answer != KORVEZUL_ACCEPTED && k < sizeof r.mep; k++)
+            need(((const uint8_t *)&r.mep)[k] == 0, "a MEP-ID beside a refusal");
+    }
+}
+
 static void places(uint8_t value) {
     struct korvezul_packet p = {.my = 1, .your = 2, .state = 2, .multiplier = 3};
-    struct korvezul_mep_id id = {.kind = 1};
+    struct korvezul_mep_id lsp = {.kind = KORVEZUL_LSP};
+    struct korvezul_mep_id pseudowire = {.kind = KORVEZUL_PSEUDOWIRE, .agi_type = 1, .agi_length = 3};
     struct korvezul_fault f = {.kind = 1, .refresh = 1, .has_if_id = 1, .has_global_id = 1};
     uint8_t m[KORVEZUL_CV_OCTETS], o[KORVEZUL_CV_OCTETS + 3];
     need(korvezul_write_cc_message(m, sizeof m, p) == 0, "CC");
@@ -194,14 +282,10 @@ static void places(uint8_t value) {
             korvezul_read_cc(padded(m, KORVEZUL_CC_OCTETS, o, i, value), KORVEZUL_CC_OCTETS + 3);
         place(r.answer, r.place, &r.packet, offsetof(struct korvezul_packet, demand) + 1);
     }
-    need(korvezul_write_cv_message(m, sizeof m, p, id) == 0, "CV");
     printf("\nCV:");
-    for (size_t i = 0; i <= KORVEZUL_CV_OCTETS; i++) {
-        struct korvezul_cv_read r =
-            korvezul_read_cv(padded(m, KORVEZUL_CV_OCTETS, o, i, value), KORVEZUL_CV_OCTETS + 3);
-        need(r.answer == 0 || (r.part == 0 && r.mep.kind == 0), "part and MEP-ID beside a refusal");
-        place(r.answer, r.place, &r.packet, offsetof(struct korvezul_packet, demand) + 1);
-    }
+    cv_places(p, lsp, 44, value);
+    printf("\nCV of a pseudowire:");
+    cv_places(p, pseudowire, 49, value);
     need(korvezul_write_fault_message(m, sizeof m, f) == 0, "AIS");
     printf("\nAIS:");
     for (size_t i = 0; i <= KORVEZUL_FAULT_OCTETS; i++) {
@@ -223,7 +307,7 @@ static uint32_t held(uint32_t answer) {
 }
 
 static struct korvezul_packet packet = {.my = 17, .your = 34, .state = 3, .multiplier = 3};
-static struct korvezul_mep_id mep = {.kind = 1};
+static struct korvezul_mep_id mep = {.kind = KORVEZUL_LSP};
 static struct korvezul_fault fault = {.kind = 1, .refresh = 1};
 static struct korvezul_settings settings = {.label = 100, .discriminator = 17, .period = 1000000};
 
@@ -265,6 +349,49 @@ static void marks(void) {
     mark(opening, "open, follow lock", &settings.follow_lock);
 }
 
+/* The answers to a MEP-ID of each kind, with an AGI length. */
+static void kinds(uint32_t (*call)(void), const char *name, struct korvezul_mep_id *at) {
+    const struct korvezul_mep_id before = *at;
+    static const uint8_t lengths[] = {0, 32, 33, 255};
+    for (size_t i = 0; i < sizeof lengths; i++) {
+        printf("%s of kind 0, 1, 2, 3, 65535 with an AGI length of %d:", name, lengths[i]);
+        at->agi_length = lengths[i];
+        for (uint32_t kind = 0; kind <= 3; kind++) {
+            at->kind = (uint16_t)kind;
+            printf(" %" PRIu32, call());
+        }
+        at->kind = 65535;
+        printf(" %" PRIu32 "\n", call());
+    }
+    *at = before;
+}
+
+static void mep_ids(void) {
+    kinds(cv, "CV", &mep);
+    kinds(opening, "open, own", &settings.own);
+    kinds(opening, "open, expected", &settings.expected);
+}
+
+/* The answers to the octets of a MEP-ID alone: cut behind each octet, and with an octet more; and with
+ * another type, length or AGI length. */
+static void alone(void) {
+    uint8_t o[22];
+    size_t n = pseudowire_octets(o, 3);
+    o[n] = 0xee;
+    printf("a MEP-ID of 21 octets, cut and padded:");
+    for (size_t i = 0; i <= sizeof o; i++)
+        printf(" %" PRIu32, korvezul_read_mep_id(o, i).answer);
+    printf("\nits type, length and AGI length one more:");
+    for (size_t i = 1; i <= 17; i += i == 1 ? 2 : 14) {
+        o[i]++;
+        printf(" %" PRIu32, korvezul_read_mep_id(o, sizeof o).answer);
+        o[i]--;
+    }
+    o[1] = 3;
+    printf("\nof type 3, of 4 octets and of 3: %" PRIu32 " %" PRIu32 "\n", korvezul_read_mep_id(o, 4).answer,
+           korvezul_read_mep_id(o, 3).answer);
+}
+
 /* A number behind an absent IF_ID or Global_ID, and behind one that is there. */
 static void behind(const char *name, uint32_t *number, uint8_t *present) {
     *number = 1;
@@ -289,7 +416,12 @@ struct table {
 };
 
 static struct table kept, lent;
-static const struct korvezul_settings other = {101, 18, 1000000, {1, 7, 10, 1}, {1, 7, 20, 1}, 0, 0};
+static const struct korvezul_settings other = {
+    .own = {.kind = KORVEZUL_LSP, .global = 7, .node = 10, .local = 1},
+    .expected = {.kind = KORVEZUL_LSP, .global = 7, .node = 20, .local = 1},
+    .label = 101,
+    .discriminator = 18,
+    .period = 1000000};
 static uint8_t message[KORVEZUL_CC_OCTETS];
 
 #define LENT(records) lent.row, records, &lent.head
@@ -359,6 +491,7 @@ int main(void) {
     check_version();
     check_layout();
     check_octets();
+    check_pseudowires();
     headline("each field in its own octets");
     written();
     headline("answer and place, with one octet after the other set to 0, and with none");
@@ -367,6 +500,9 @@ int main(void) {
     places(255);
     headline("marks");
     marks();
+    headline("MEP-IDs");
+    mep_ids();
+    alone();
     headline("numbers behind what is absent");
     absent();
     headline("rows of another length");

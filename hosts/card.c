@@ -68,16 +68,17 @@ static void pass_cc(struct end *from, struct end *to) {
     }
 }
 
-/* The same for the CV of any label of the sender. */
+/* The same for the CV of any label of the sender; its reader says how many octets it has. */
 static void pass_cv(struct end *from, uint32_t label, struct end *to) {
-    uint8_t m[KORVEZUL_CV_OCTETS];
+    uint8_t m[KORVEZUL_CV_OCTETS] = {0};
     uint32_t answer;
     tick(from);
     answer = korvezul_write_cv(from->row, KORVEZUL_RECORDS, &from->head, label, m, sizeof m);
     said(from, "write CV", label, answer);
     if (answer == KORVEZUL_ACCEPTED) {
-        octets(m, sizeof m);
-        receive(to, m, sizeof m);
+        size_t n = (size_t)korvezul_read_cv(m, sizeof m).place;
+        octets(m, n);
+        receive(to, m, n);
     }
 }
 
@@ -95,17 +96,24 @@ static void exchange(uint64_t from, uint64_t to) {
 }
 
 static struct korvezul_mep_id lsp(uint32_t node) {
-    struct korvezul_mep_id id = {.kind = 1, .global = 7, .node = node, .local = 0x00050001};
+    struct korvezul_mep_id id = {.kind = KORVEZUL_LSP, .global = 7, .node = node, .local = 0x00050001};
     return id;
 }
 
-static void open_session(struct end *e, uint32_t label, uint32_t discriminator, uint32_t own,
-                         uint32_t expected) {
-    struct korvezul_settings s = {.label = label,
+/* A pseudowire from its octets: AC_ID 5, and an AGI of type 1 and 9 octets, of which the last is `group`. */
+static struct korvezul_mep_id pseudowire(uint8_t node, uint8_t group) {
+    const uint8_t o[] = {0, 2, 0, 23, 0,   0,   0,   7,   0,   0,   0,   node, 0,    0,
+                         0, 5, 1, 9,  'g', 'r', 'o', 'u', 'p', ' ', 'n', 'o',  group};
+    return korvezul_read_mep_id(o, sizeof o).mep;
+}
+
+static void open_session(struct end *e, uint32_t label, uint32_t discriminator, struct korvezul_mep_id own,
+                         struct korvezul_mep_id expected) {
+    struct korvezul_settings s = {.own = own,
+                                  .expected = expected,
+                                  .label = label,
                                   .discriminator = discriminator,
                                   .period = 1000000,
-                                  .own = lsp(own),
-                                  .expected = lsp(expected),
                                   .follow_link = 1,
                                   .follow_lock = 0};
     said(e, "open", label, korvezul_open(e->row, KORVEZUL_RECORDS, &e->head, s, now));
@@ -150,7 +158,7 @@ static void message_refusals(uint8_t *cc, uint8_t *fault, struct korvezul_packet
 
 /* The readers and writers of messages alone. */
 static void messages(void) {
-    uint8_t cc[KORVEZUL_CC_OCTETS], cv[KORVEZUL_CV_OCTETS + 3] = {0}, fault[KORVEZUL_FAULT_OCTETS];
+    uint8_t cc[KORVEZUL_CC_OCTETS], cv[47] = {0}, fault[KORVEZUL_FAULT_OCTETS];
     struct korvezul_packet p = {.my = 17,
                                 .your = 34,
                                 .transmit = 1000000,
@@ -174,7 +182,7 @@ static void messages(void) {
     v = korvezul_read_cv(cv, sizeof cv);
     printf(", read: %" PRIu32 ", %" PRIu64 " octets of 47, node %" PRIu32 ", part from octet %" PRIu32 "\n",
            v.answer, v.place, v.mep.node, v.part);
-    octets(cv + v.part, 16);
+    octets(cv + v.part, v.part_octets);
     printf("write LKR: %" PRIu32, korvezul_write_fault_message(fault, sizeof fault, f));
     w = korvezul_read_fault(fault, 15);
     printf(", read: %" PRIu32 ", %" PRIu64
@@ -199,8 +207,8 @@ static void come_up(void) {
     headline("two tables made empty, a session opened in each");
     said(&a, "empty", 0, korvezul_empty(a.row, KORVEZUL_RECORDS, &a.head));
     said(&b, "empty", 0, korvezul_empty(b.row, KORVEZUL_RECORDS, &b.head));
-    open_session(&a, 100, 17, 10, 20);
-    open_session(&b, 200, 34, 20, 10);
+    open_session(&a, 100, 17, lsp(10), lsp(20));
+    open_session(&b, 200, 34, lsp(20), lsp(10));
     headline("CC goes both ways until both are UP");
     exchange(0, 2000000);
     both_report();
@@ -214,7 +222,7 @@ static void come_up(void) {
 static void cross(void) {
     headline("the CV of another circuit of A comes out at B: crossed, blocked, down");
     now = 3000000;
-    open_session(&a, 101, 18, 11, 21);
+    open_session(&a, 101, 18, lsp(11), lsp(21));
     pass_cv(&a, 101, &b);
     report(&b);
     headline("set right again: B is held down until 3.5 seconds after the crossed message");
@@ -255,6 +263,32 @@ static void lock_and_unlock(void) {
     both_report();
 }
 
+/* A buffer with one octet less than the CV of this pseudowire has stays as it is. */
+static void too_short(struct end *e, uint32_t label) {
+    uint8_t m[54];
+    memset(m, 0xa5, sizeof m);
+    said(e, "write CV", label, korvezul_write_cv(e->row, KORVEZUL_RECORDS, &e->head, label, m, sizeof m));
+    octets(m, sizeof m);
+}
+
+static void over_a_pseudowire(void) {
+    headline("a pseudowire beside the LSP: its CV has 46 octets and those of its AGI");
+    open_session(&a, 102, 19, pseudowire(10, '1'), pseudowire(20, '1'));
+    open_session(&b, 202, 35, pseudowire(20, '1'), pseudowire(10, '1'));
+    a.label = 102;
+    b.label = 202;
+    too_short(&a, 102);
+    pass_cv(&a, 102, &b);
+    pass_cv(&b, 202, &a);
+    both_report();
+    headline("the CV of another group comes out at B: its AGI differs in the last octet");
+    open_session(&a, 103, 20, pseudowire(10, '2'), pseudowire(20, '2'));
+    pass_cv(&a, 103, &b);
+    report(&b);
+    a.label = 100;
+    b.label = 200;
+}
+
 static void refusals(void) {
     headline("refusals");
     now = 19999999;
@@ -274,6 +308,7 @@ int main(void) {
     cross();
     cut();
     lock_and_unlock();
+    over_a_pseudowire();
     refusals();
     headline("messages alone");
     messages();

@@ -16,16 +16,9 @@ impl End {
         let why = if answer == 0 { String::new() } else { format!(", {}", answer_name(answer)) };
         println!("{now:9} {} {call}: {answer}{why}", self.name);
     }
-    fn open(&mut self, now: u64, label: u32, discriminator: u32, own: u32, expected: u32) {
-        let settings = Settings {
-            label,
-            discriminator,
-            period: 1000000,
-            own: lsp(own),
-            expected: lsp(expected),
-            follow_link: 1,
-            follow_lock: 0,
-        };
+    fn open(&mut self, now: u64, label: u32, discriminator: u32, own: MepId, expected: MepId) {
+        let settings =
+            Settings { own, expected, label, discriminator, period: 1000000, follow_link: 1, follow_lock: 0 };
         let answer = self.table.open(settings, now);
         self.said(now, &format!("open {label}"), answer);
     }
@@ -66,15 +59,16 @@ fn pass_cc(now: u64, from: &mut End, to: &mut End) {
     }
 }
 
-/// The same for the CV of any label of the sender.
+/// The same for the CV of any label of the sender; its reader says how many octets it has.
 fn pass_cv(now: u64, from: &mut End, label: u32, to: &mut End) {
-    let mut m = [0; 44];
+    let mut m = [0; CV_OCTETS];
     from.tick(now);
     let answer = from.table.write_cv(label, &mut m);
     from.said(now, &format!("write CV {label}"), answer);
     if answer == 0 {
-        octets(&m);
-        to.receive(now, &m);
+        let m = &m[..read_cv(&m).place as usize];
+        octets(m);
+        to.receive(now, m);
     }
 }
 
@@ -91,7 +85,13 @@ fn exchange(from: u64, to: u64, a: &mut End, b: &mut End) {
 }
 
 fn lsp(node: u32) -> MepId {
-    MepId { kind: 1, global: 7, node, local: 0x00050001 }
+    MepId { kind: 1, global: 7, node, local: 0x00050001, ..MepId::default() }
+}
+
+/// A pseudowire from its octets: AC_ID 5, and an AGI of type 1 and 9 octets, of which the last is `group`.
+fn pseudowire(node: u8, group: u8) -> MepId {
+    let head = [0, 2, 0, 23, 0, 0, 0, 7, 0, 0, 0, node, 0, 0, 0, 5, 1, 9];
+    read_mep_id(&[&head, b"group no".as_slice(), &[group]].concat()).mep
 }
 
 /// AIS with link down from a node in between, refreshed every second.
@@ -116,14 +116,19 @@ fn ais(now: u64, to: &mut End) {
 /// Every field of a record, as the library stored it, read through the declarations above: a session
 /// that is opened, hears a CC, takes an LKR and is crossed, with values that tell the fields apart.
 fn check_layout() {
-    let own = MepId { kind: 1, global: 0x41424344, node: 0x45464748, local: 0x494a4b4c };
-    let expected = MepId { kind: 1, global: 0x51525354, node: 0x55565758, local: 0x595a5b5c };
+    let word = |first: u64| 0x0001020304050607 + 0x0101010101010101 * first;
+    let agi = |first: u64| [first, first + 8, first + 16, first + 24].map(word);
+    let (group, size) = (0x4d, 32);
+    let own = MepId { agi: agi(0x80), global: 0x41424344, node: 0x45464748, local: 0x494a4b4c, kind: 2, group, size };
+    let (group, size) = (0x5d, 31);
+    let expected =
+        MepId { agi: agi(0xa0), global: 0x51525354, node: 0x55565758, local: 0x595a5b5c, kind: 2, group, size };
     let settings = Settings {
+        own,
+        expected,
         label: 0x11121,
         discriminator: 0x21222324,
         period: 0x313233,
-        own,
-        expected,
         follow_link: 1,
         follow_lock: 0,
     };
@@ -146,8 +151,7 @@ fn check_layout() {
     assert_eq!((write_cc_message(&mut m, heard), t.receive(settings.label, &m, 0x010204)), (0, 0));
     assert_eq!((write_fault_message(&mut m, lkr), t.receive(settings.label, &m[..25], 0x010205)), (0, 0));
     assert_eq!((write_cc_message(&mut m, crossed), t.receive(settings.label, &m, 0x010206)), (0, 0));
-    let key =
-        Key { node: lkr.node, interface: lkr.interface, global: lkr.global, kind: 2, present: 1, carrier: 1 };
+    let key = Key { node: lkr.node, interface: lkr.interface, global: lkr.global, kind: 2, present: 1, carrier: 1 };
     let mut conditions = [Condition::default(); 4];
     conditions[0] = Condition { at: 0x010205, key, refresh: 20, link_down: 1 };
     let peer = Peer { remote: heard.my, multiplier: 5, diagnostic: 9, owed: 1 };
@@ -165,17 +169,46 @@ fn check_packet() {
     let flags = Packet { poll: 1, independent: 1, ..Packet::default() };
     let p =
         Packet { my, your, transmit, receive, echo: 0x11121314, diagnostic: 0x1f, state: 2, multiplier: 0x15, ..flags };
-    let id = MepId { kind: 1, global: 0x21222324, node: 0x25262728, local: 0x292a2b2c };
+    let id = MepId { kind: 1, global: 0x21222324, node: 0x25262728, local: 0x292a2b2c, ..MepId::default() };
     let mut cv = [0; 44];
     assert_eq!(write_cv_message(&mut cv, p, id), 0);
     assert_eq!(cv[..8], [0x10, 0, 0, 0x23, 0x3f, 0xa8, 0x15, 0x18]);
     assert!((8..28).all(|i| cv[i] as usize == i - 7) && cv[28..32] == [0, 1, 0, 12]);
     assert!((32..44).all(|i| cv[i] as usize == i + 1));
     let v = read_cv(&cv);
-    assert_eq!((v.answer, v.place, v.part, v.packet, v.mep), (0, 44, 28, p, id));
+    assert_eq!((v.answer, v.place, v.part, v.part_octets, v.packet, v.mep), (0, 44, 28, 16, p, id));
     let mut cc = [0; 28];
     let other = Packet { state: 3, poll: 0, independent: 0, fin: 1, demand: 1, ..p };
     assert_eq!((write_cc_message(&mut cc, other), cc[5]), (0, 0xd2));
+}
+
+/// The same for the MEP-ID of a pseudowire, alone and in a CV, with every AGI length.
+fn check_pseudowire() {
+    let p = Packet { my: 1, multiplier: 3, ..Packet::default() };
+    for size in 0..=32u8 {
+        let n = usize::from(size);
+        let agi: Vec<u8> = (0x61..0x61 + size).collect();
+        let value = [&[0x21, 0x22, 0x23, 0x24, 0x25, 0x26, 0x27, 0x28, 0x29, 0x2a, 0x2b, 0x2c, 9, size], &agi[..]];
+        let octets = [&[0, 2, 0, 14 + size], &value.concat()[..]].concat();
+        let r = read_mep_id(&octets);
+        let id = r.mep;
+        assert_eq!((r.answer, id.kind, id.group, id.size), (0, 2, 9, size));
+        assert_eq!((id.global, id.node, id.local), (0x21222324, 0x25262728, 0x292a2b2c));
+        let words: Vec<u8> = id.agi.iter().flat_map(|word| word.to_be_bytes()).collect();
+        assert!(words[..n] == agi[..] && words[n..].iter().all(|o| *o == 0));
+        assert_eq!((read_mep_id(&octets[..17 + n]).answer, read_mep_id(&[0, 3, 0, 12]).answer), (3, 7));
+        // octets behind the AGI are nobody's: not written, and nought when read
+        let mut other = id;
+        (n..32).for_each(|i| other.agi[i / 8] |= 0xee << (56 - 8 * (i % 8)));
+        let mut m = [0xa5; CV_OCTETS];
+        assert_eq!(write_cv_message(&mut m[..45 + n], p, other), 13);
+        assert_eq!(write_cv_message(&mut m, p, other), 0);
+        assert!(m[28..46 + n] == octets && m[46 + n..].iter().all(|o| *o == 0xa5));
+        let v = read_cv(&m);
+        assert_eq!((v.answer, v.place, v.part, v.part_octets, v.mep), (0, 46 + n as u64, 28, 18 + n as u32, id));
+    }
+    assert_eq!(write_cv_message(&mut [0; 128], p, MepId { kind: 2, size: 33, ..MepId::default() }), 10);
+    assert_eq!(write_cv_message(&mut [0; 44], p, MepId { kind: 1, size: 200, ..MepId::default() }), 0);
 }
 
 /// The same for a fault message.
@@ -272,7 +305,7 @@ fn messages() {
     let v = read_cv(&cv);
     assert!(v.packet == p);
     println!(", read: {}, {} octets of 47, node {}, part from octet {}", v.answer, v.place, v.mep.node, v.part);
-    octets(&cv[v.part as usize..v.part as usize + 16]);
+    octets(&cv[v.part as usize..(v.part + v.part_octets) as usize]);
     print!("write LKR: {}", write_fault_message(&mut fault, f));
     let w = read_fault(&fault[..15]);
     let g = w.fault;
@@ -299,8 +332,8 @@ fn come_up(a: &mut End, b: &mut End) {
         let answer = e.table.empty();
         e.said(0, "empty", answer);
     }
-    a.open(0, 100, 17, 10, 20);
-    b.open(0, 200, 34, 20, 10);
+    a.open(0, 100, 17, lsp(10), lsp(20));
+    b.open(0, 200, 34, lsp(20), lsp(10));
     println!("-- CC goes both ways until both are UP");
     exchange(0, 2000000, a, b);
     both_report(2000000, a, b);
@@ -312,7 +345,7 @@ fn come_up(a: &mut End, b: &mut End) {
 
 fn cross(a: &mut End, b: &mut End) {
     println!("-- the CV of another circuit of A comes out at B: crossed, blocked, down");
-    a.open(3000000, 101, 18, 11, 21);
+    a.open(3000000, 101, 18, lsp(11), lsp(21));
     pass_cv(3000000, a, 101, b);
     b.report(3000000);
     println!("-- set right again: B is held down until 3.5 seconds after the crossed message");
@@ -354,6 +387,31 @@ fn lock_and_unlock(a: &mut End, b: &mut End) {
     both_report(20000000, a, b);
 }
 
+/// A buffer with one octet less than the CV of this pseudowire has stays as it is.
+fn too_short(now: u64, e: &mut End, label: u32) {
+    let mut m = [0xa5; 54];
+    let answer = e.table.write_cv(label, &mut m);
+    e.said(now, &format!("write CV {label}"), answer);
+    octets(&m);
+}
+
+fn over_a_pseudowire(a: &mut End, b: &mut End) {
+    let now = 20000000;
+    println!("-- a pseudowire beside the LSP: its CV has 46 octets and those of its AGI");
+    a.open(now, 102, 19, pseudowire(10, b'1'), pseudowire(20, b'1'));
+    b.open(now, 202, 35, pseudowire(20, b'1'), pseudowire(10, b'1'));
+    (a.label, b.label) = (102, 202);
+    too_short(now, a, 102);
+    pass_cv(now, a, 102, b);
+    pass_cv(now, b, 202, a);
+    both_report(now, a, b);
+    println!("-- the CV of another group comes out at B: its AGI differs in the last octet");
+    a.open(now, 103, 20, pseudowire(10, b'2'), pseudowire(20, b'2'));
+    pass_cv(now, a, 103, b);
+    b.report(now);
+    (a.label, b.label) = (100, 200);
+}
+
 /// Close, of the first records of the row.
 fn close_of(table: &mut Table, records: usize, label: u32, reading: u64) -> u32 {
     let row = &mut table.row[..records];
@@ -373,6 +431,7 @@ fn main() {
     assert_eq!(unsafe { korvezul_version() }, VERSION);
     check_layout();
     check_packet();
+    check_pseudowire();
     check_fault();
     check_rows();
     let mut a = End { name: 'A', table: Table::new(), label: 100 };
@@ -381,6 +440,7 @@ fn main() {
     cross(&mut a, &mut b);
     cut(&mut a, &mut b);
     lock_and_unlock(&mut a, &mut b);
+    over_a_pseudowire(&mut a, &mut b);
     refusals(&mut a);
     println!("-- messages alone");
     messages();

@@ -123,15 +123,53 @@ fn empty_table() -> Result<Table, String> {
 }
 
 fn mep(kind: u16, global: u32, node: u32, local: u32) -> MepId {
-    MepId { kind, global, node, local }
+    MepId { kind, global, node, local, ..MepId::default() }
+}
+
+/// The octets of an AGI in words of eight, the first one highest, noughts behind them.
+fn agi(octets: &[u8]) -> Result<[u64; 4], String> {
+    let mut words = [0; 4];
+    for (i, octet) in octets.iter().enumerate() {
+        let word = words.get_mut(i / 8).ok_or("an AGI has at most 32 octets")?;
+        *word |= u64::from(*octet) << (56 - 8 * (i % 8));
+    }
+    Ok(words)
+}
+
+/// Type, Global_ID, Node and last number; then, where there is more, AGI type, AGI length and AGI.
+fn mep_by(w: &mut Words) -> Result<MepId, String> {
+    let id = mep(w.number()?, w.number()?, w.number()?, w.number()?);
+    let (group, size) = (w.number_or_0()?, w.number_or_0()?);
+    Ok(MepId { group, size, agi: agi(&w.octets()?)?, ..id })
+}
+
+/// How many octets a CV from this end point has.
+fn cv_size(id: MepId) -> usize {
+    match id.kind {
+        2 => 46 + usize::from(id.size),
+        _ => 44,
+    }
 }
 
 /// Own LSP, Global_ID 65,000, Node 0a000001, Tunnel 7 and LSP 2, expected the same with Node 0a000002,
-/// Tunnel 9 and LSP 4.
+/// Tunnel 9 and LSP 4. In each stands an AGI too, of type 5 with the octets 40 to 5f, of type 6 with 60 to 7f:
+/// it is nobody's field but a pseudowire's, and there only as far as the AGI length.
 fn settings(label: u32, discriminator: u32, period: u32) -> Settings {
-    let own = mep(1, 65_000, 0x0a00_0001, 0x0007_0002);
-    let expected = mep(1, 65_000, 0x0a00_0002, 0x0009_0004);
-    Settings { label, discriminator, period, own, expected, follow_link: 0, follow_lock: 0 }
+    let agi_from = |first: u64| [0, 1, 2, 3].map(|i| 0x0001_0203_0405_0607 + 0x0101_0101_0101_0101 * (first + 8 * i));
+    let own = MepId { group: 5, agi: agi_from(0x40), ..mep(1, 65_000, 0x0a00_0001, 0x0007_0002) };
+    let expected = MepId { group: 6, agi: agi_from(0x60), ..mep(1, 65_000, 0x0a00_0002, 0x0009_0004) };
+    Settings { own, expected, label, discriminator, period, follow_link: 0, follow_lock: 0 }
+}
+
+/// The words of a line behind which settings stand: marks, what is added to the MEP-ID types 1 and 1, and the two
+/// AGI lengths.
+fn settings_by(mut g: Settings, w: &mut Words) -> Result<Settings, String> {
+    (g.follow_link, g.follow_lock) = (w.number_or_0()?, w.number_or_0()?);
+    g.own.kind += w.number_or_0::<u16>()?;
+    g.expected.kind += w.number_or_0::<u16>()?;
+    (g.own.size, g.expected.size) = (w.number_or_0()?, w.number_or_0()?);
+    w.end()?;
+    Ok(g)
 }
 
 /// A plain packet of the stories; of the flags 2 is P and 1 is F.
@@ -150,8 +188,8 @@ fn cc_of(w: &mut Words) -> Result<(u32, Vec<u8>), String> {
 /// A CV always has diagnostic 1, P, multiplier 200 and My 51, none of which counts.
 fn cv_of(w: &mut Words) -> Result<(u32, Vec<u8>), String> {
     let p = packet(w.number()?, 1, 2, 200, 51, w.number()?);
-    let id = mep(w.number()?, w.number()?, w.number()?, w.number()?);
-    let mut m = vec![0; 44];
+    let id = mep_by(w)?;
+    let mut m = vec![0; cv_size(id)];
     Ok((write_cv_message(&mut m, p, id), m))
 }
 
@@ -202,12 +240,18 @@ fn reported(t: &mut Table, label: u32) -> Result<(u32, String), String> {
     }
 }
 
+/// The own end point of a label's session.
+fn own_of(t: &Table, label: u32) -> MepId {
+    let open = (0..RECORDS).filter(|i| t.head.occupied >> i & 1 == 1).map(|i| t.row[i].settings);
+    open.filter(|g| g.label == label).map(|g| g.own).next().unwrap_or_default()
+}
+
 /// What is written into a buffer of ee: the message, behind which nothing is touched, or nothing.
 fn written(t: &mut Table, word: &str, label: u32, room: usize) -> Result<(u32, String), String> {
     let mut buffer = vec![0xee; room];
     let (size, answer) = match word {
         "write-cc" => (28, called(t, |t| t.write_cc(label, &mut buffer))?),
-        _ => (44, called(t, |t| t.write_cv(label, &mut buffer))?),
+        _ => (cv_size(own_of(t, label)), called(t, |t| t.write_cv(label, &mut buffer))?),
     };
     let size = if answer == 0 { size } else { 0 };
     if buffer[size..].iter().any(|o| *o != 0xee) {
@@ -220,12 +264,8 @@ fn written(t: &mut Table, word: &str, label: u32, room: usize) -> Result<(u32, S
 
 fn open_line(t: &mut Table, w: &mut Words) -> Shown {
     let reading = w.number()?;
-    let mut g = settings(w.number()?, w.number()?, w.number()?);
-    g.follow_link = w.number_or_0()?;
-    g.follow_lock = w.number_or_0()?;
-    g.own.kind += w.number_or_0::<u16>()?;
-    g.expected.kind += w.number_or_0::<u16>()?;
-    w.end()?;
+    let g = settings(w.number()?, w.number()?, w.number()?);
+    let g = settings_by(g, w)?;
     Ok(Some(called(t, |t| t.open(g, reading))?.to_string()))
 }
 
@@ -271,6 +311,8 @@ fn spoil_line(t: &mut Table, w: &mut Words) -> Shown {
         "lock" => record.settings.follow_lock = number_of(value)?,
         "own" => record.settings.own.kind = number_of(value)?,
         "expected" => record.settings.expected.kind = number_of(value)?,
+        "own-agi" => record.settings.own.size = number_of(value)?,
+        "expected-agi" => record.settings.expected.size = number_of(value)?,
         "remote" => record.peer.remote = number_of(value)?,
         "multiplier" => record.peer.multiplier = number_of(value)?,
         "diagnostic" => record.peer.diagnostic = number_of(value)?,
@@ -374,10 +416,8 @@ fn session_call(t: &mut Table, word: &str, reading: u64, w: &mut Words) -> Shown
 }
 
 fn session_open(t: &mut Table, reading: u64, w: &mut Words) -> Shown {
-    let mut g = settings(LABEL, 17, w.number()?);
-    g.follow_link = w.number()?;
-    g.follow_lock = w.number()?;
-    w.end()?;
+    let g = settings(LABEL, 17, w.number()?);
+    let g = settings_by(g, w)?;
     Ok(Some(called(t, |t| t.open(g, reading))?.to_string()))
 }
 
@@ -409,6 +449,7 @@ fn with_settings(t: &Table, w: &mut Words) -> Result<Table, String> {
     (g.label, g.discriminator, g.period) = (w.number()?, w.number()?, w.number()?);
     (g.own.kind, g.expected.kind) = (w.number()?, w.number()?);
     (g.follow_link, g.follow_lock) = (w.number()?, w.number()?);
+    (g.own.size, g.expected.size) = (w.number_or_0()?, w.number_or_0()?);
     Ok(t)
 }
 
@@ -435,7 +476,7 @@ fn session_line(t: &mut Table, word: &str, w: &mut Words) -> Shown {
         "report" => report_at(t, reading)?,
         "write-cc" | "write-cv" => {
             tick_to(t, reading)?;
-            accepted(written(t, word, LABEL, 44)?)?
+            accepted(written(t, word, LABEL, 78)?)?
         }
         _ => return session_call(t, word, reading, w),
     };
@@ -489,8 +530,7 @@ fn fault_by(w: &mut Words) -> Result<Fault, String> {
     Ok(f)
 }
 
-/// What a reader shows: its answer and its place, and behind 0 the fields; beside a refusal these are
-/// noughts.
+/// What a reader shows: 0 and the fields, or a refusal and noughts, with a place in either case.
 fn read(answer: u32, place: u64, noughts: bool, fields: String) -> Shown {
     match (answer, noughts) {
         (0, _) => Ok(Some(format!("0 {place}, {fields}"))),
@@ -504,13 +544,37 @@ fn read_cc_line(m: &[u8]) -> Shown {
     read(r.answer, r.place, r.packet == Packet::default(), packet_fields(r.packet))
 }
 
+/// Type and numbers; of a pseudowire AGI type, AGI length and AGI too. What a type does not use is read as
+/// nought, and what is not shows here.
+fn mep_fields(id: MepId) -> String {
+    let four = numbers(&[u64::from(id.kind), id.global.into(), id.node.into(), id.local.into()]);
+    if id == mep(id.kind.min(1), id.global, id.node, id.local) {
+        return four;
+    }
+    let octets: Vec<u8> = id.agi.iter().flat_map(|word| word.to_be_bytes()).collect();
+    let (agi, behind) = octets.split_at(usize::from(id.size).min(32));
+    let behind = behind.iter().any(|o| *o != 0).then(|| format!("and {}", hex(behind)));
+    let words = [four, id.group.to_string(), id.size.to_string(), hex(agi), behind.unwrap_or_default()];
+    words.into_iter().filter(|word| !word.is_empty()).collect::<Vec<_>>().join(" ")
+}
+
 fn read_cv_line(m: &[u8]) -> Shown {
     let r = read_cv(m);
-    let id = numbers(&[u64::from(r.mep.kind), r.mep.global.into(), r.mep.node.into(), r.mep.local.into()]);
-    let part = r.part as usize;
-    let noughts = r.packet == Packet::default() && r.mep == MepId::default() && part == 0;
-    let part = if noughts { &[] } else { m.get(part..part + 16).ok_or("the part is not in the message")? };
-    read(r.answer, r.place, noughts, format!("{}, {id}, {}", packet_fields(r.packet), hex(part)))
+    let (from, to) = (r.part as usize, (r.part + r.part_octets) as usize);
+    let noughts = r.packet == Packet::default() && r.mep == MepId::default() && to == 0;
+    let part = m.get(from..to).ok_or("the part is not in the message")?;
+    let (packet, id) = (packet_fields(r.packet), mep_fields(r.mep));
+    read(r.answer, r.place, noughts, format!("{packet}, {id}, {}", hex(part)))
+}
+
+/// A MEP-ID alone, which is answered without a place.
+fn read_mep_line(octets: &[u8]) -> Shown {
+    let r = read_mep_id(octets);
+    match r.answer {
+        0 => Ok(Some(answered(0, &mep_fields(r.mep)))),
+        n if r.mep == MepId::default() => Ok(Some(n.to_string())),
+        n => Err(format!("refused with {n}, and yet {}", mep_fields(r.mep))),
+    }
 }
 
 fn read_fault_line(m: &[u8]) -> Shown {
@@ -548,7 +612,7 @@ fn write_line(word: &str, w: &mut Words) -> Shown {
         "write-cc" => write_cc_message(&mut buffer, packet_by(w)?),
         "write-cv" => {
             let p = packet_by(w)?;
-            write_cv_message(&mut buffer, p, mep(w.number()?, w.number()?, w.number()?, w.number()?))
+            write_cv_message(&mut buffer, p, mep_by(w)?)
         }
         "write-fault" => write_fault_message(&mut buffer, fault_by(w)?),
         _ => return Err(format!("no such word: {word}")),
@@ -562,6 +626,7 @@ fn message_line(word: &str, w: &mut Words) -> Shown {
         "kind" => kind_line(&w.octets()?),
         "cc" => read_cc_line(&w.octets()?),
         "cv" => read_cv_line(&w.octets()?),
+        "mep" => read_mep_line(&w.octets()?),
         "fault" => read_fault_line(&w.octets()?),
         _ => write_line(word, w),
     }

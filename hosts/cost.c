@@ -1,7 +1,8 @@
 /*
  * One call on a table of 1 or 64 open sessions, for `hosts/cost` to count: `cost CALL OPEN STATE`.
- * STATE is `usual` (labels in a row, sessions UP, no condition) or `worst` (labels and
- * discriminators that share one mark of the scan, four conditions standing and a crossing in each).
+ * STATE is `usual` (labels in a row, sessions of LSPs, UP, no condition) or `worst` (labels and
+ * discriminators that share one mark of the scan, sessions of pseudowires with the longest AGI, four
+ * conditions standing and a crossing in each).
  * Under valgrind the call alone is counted; without it the stack that it used is printed.
  */
 #define _DEFAULT_SOURCE
@@ -21,6 +22,7 @@ static int worst;
 static uint64_t now;
 static uint32_t last; /* the label of the last place, which every scan comes to last */
 static uint8_t cc[KORVEZUL_CC_OCTETS], cv[KORVEZUL_CV_OCTETS], ais[9 + 254], buffer[KORVEZUL_CV_OCTETS];
+static size_t cv_octets; /* of the CV that is received */
 
 static void accepted(uint32_t answer) {
     if (answer != 0) {
@@ -31,8 +33,14 @@ static void accepted(uint32_t answer) {
 
 static uint32_t label_of(unsigned i) { return worst ? 16 + 1024 * i : 100 + i; }
 
+static struct korvezul_mep_id mep_of(uint32_t node, uint32_t local) {
+    struct korvezul_mep_id lsp = {{0, 0, 0, 0}, 7, node, local, KORVEZUL_LSP, 0, 0};
+    struct korvezul_mep_id pseudowire = {{1, 2, 3, 4}, 7, node, local, KORVEZUL_PSEUDOWIRE, 1, 32};
+    return worst ? pseudowire : lsp;
+}
+
 static struct korvezul_settings settings_of(unsigned i) {
-    struct korvezul_settings s = {label_of(i), label_of(i), 10000000, {1, 7, 10, i}, {1, 7, 20, i}, 1, 1};
+    struct korvezul_settings s = {mep_of(10, i), mep_of(20, i), label_of(i), label_of(i), 10000000, 1, 1};
     return s;
 }
 
@@ -71,10 +79,11 @@ static void prepare(unsigned open) {
 /* What is received: a CC, a CV, and the fault message with the most TLVs, all passed over. */
 static void messages(void) {
     struct korvezul_packet p = {9, last, 1000000, 1000000, 0, 0, 3, 3, 1, 0, 0, 0};
-    struct korvezul_mep_id expected = {1, 7, 20, (last - label_of(0)) / (worst ? 1024 : 1)};
+    struct korvezul_mep_id expected = mep_of(20, (last - label_of(0)) / (worst ? 1024 : 1));
     struct korvezul_fault f = {0, 0, 0, 1, 1, 1, 20, 0, 0};
     accepted(korvezul_write_cc_message(cc, sizeof cc, p));
     accepted(korvezul_write_cv_message(cv, sizeof cv, p, expected));
+    cv_octets = (size_t)korvezul_read_cv(cv, sizeof cv).place;
     accepted(korvezul_write_fault_message(ais, sizeof ais, f));
     ais[8] = 254;
     for (int i = 9; i < 9 + 254; i += 2)
@@ -84,7 +93,6 @@ static void messages(void) {
 /* The calls, each with arguments that are accepted. */
 #define TABLE row, KORVEZUL_RECORDS, &head
 static const struct korvezul_packet packet = {9, 1, 1000000, 1000000, 0, 0, 3, 3, 1, 0, 0, 0};
-static const struct korvezul_mep_id mep = {1, 7, 20, 0};
 static const struct korvezul_fault fault = {1, 2, 3, 1, 0, 0, 20, 1, 1};
 
 static uint32_t none(void) { return 0; } /* what the counting itself costs */
@@ -95,16 +103,19 @@ static uint32_t close_one(void) { return korvezul_close(TABLE, last, now); }
 static uint32_t lock(void) { return korvezul_lock(TABLE, last, now); }
 static uint32_t unlock(void) { return korvezul_unlock(TABLE, last, now); }
 static uint32_t receive_cc(void) { return korvezul_receive(TABLE, last, cc, sizeof cc, now); }
-static uint32_t receive_cv(void) { return korvezul_receive(TABLE, last, cv, sizeof cv, now); }
+static uint32_t receive_cv(void) { return korvezul_receive(TABLE, last, cv, cv_octets, now); }
 static uint32_t receive_fault(void) { return korvezul_receive(TABLE, last, ais, sizeof ais, now); }
 static uint32_t report(void) { return korvezul_report(TABLE, last).answer; }
 static uint32_t cc_of_session(void) { return korvezul_write_cc(TABLE, last, buffer, sizeof buffer); }
 static uint32_t cv_of_session(void) { return korvezul_write_cv(TABLE, last, buffer, sizeof buffer); }
 static uint32_t read_cc(void) { return korvezul_read_cc(cc, sizeof cc).answer; }
-static uint32_t read_cv(void) { return korvezul_read_cv(cv, sizeof cv).answer; }
+static uint32_t read_cv(void) { return korvezul_read_cv(cv, cv_octets).answer; }
 static uint32_t read_fault(void) { return korvezul_read_fault(ais, sizeof ais).answer; }
 static uint32_t cc_message(void) { return korvezul_write_cc_message(buffer, sizeof buffer, packet); }
-static uint32_t cv_message(void) { return korvezul_write_cv_message(buffer, sizeof buffer, packet, mep); }
+static uint32_t cv_message(void) {
+    return korvezul_write_cv_message(buffer, sizeof buffer, packet, mep_of(20, 0));
+}
+static uint32_t read_mep_id(void) { return korvezul_read_mep_id(cv + 28, cv_octets - 28).answer; }
 static uint32_t fault_message(void) { return korvezul_write_fault_message(buffer, sizeof buffer, fault); }
 
 static const struct {
@@ -126,6 +137,7 @@ static const struct {
              {"read-cc", read_cc},
              {"read-cv", read_cv},
              {"read-fault", read_fault},
+             {"read-mep-id", read_mep_id},
              {"write-cc-message", cc_message},
              {"write-cv-message", cv_message},
              {"write-fault-message", fault_message}};

@@ -21,7 +21,8 @@
 
 #define ROW (KORVEZUL_RECORDS * sizeof(struct korvezul_session))
 #define PAGE 4096
-#define MOST 16384
+#define MOST 20480
+#define WATCH_CV 44 /* the CV, and the buffer for it, of a session in a capture */
 
 /* ---- memory to lend, between two pages that may not be touched */
 
@@ -106,6 +107,11 @@ static struct said make(struct korvezul_session *row, size_t n, struct korvezul_
     return s;
 }
 
+/* The octets of a CV that has this MEP-ID: the header's, the packet's, and the MEP-ID's, type to end. */
+static size_t cv_size(const struct korvezul_mep_id *id) {
+    return id->kind == KORVEZUL_PSEUDOWIRE ? 46u + id->agi_length : 44;
+}
+
 /* Where a message that was received went wrong, which receive does not say: by the reader of its
  * channel. Of a header that is refused all three say the same. */
 static uint64_t place_of(const uint8_t *o, size_t n) {
@@ -126,7 +132,7 @@ static void line(uint64_t number, const struct call *c, const struct said *s) {
                s->report.rdi, s->report.blocked, s->report.conditions);
     if (s->answer == 0 && (c->kind == WRITE_CC || c->kind == WRITE_CV)) {
         printf(" ");
-        for (size_t i = 0; i < (c->kind == WRITE_CC ? KORVEZUL_CC_OCTETS : KORVEZUL_CV_OCTETS); i++)
+        for (size_t i = 0; i < (c->kind == WRITE_CC ? KORVEZUL_CC_OCTETS : WATCH_CV); i++)
             printf("%02x", c->octets[i]);
     }
     printf("\n");
@@ -148,17 +154,18 @@ static uint8_t *put(uint8_t *o, int n, uint64_t x) {
 }
 
 static struct korvezul_mep_id mep_of(uint16_t kind, const uint8_t *o) {
-    struct korvezul_mep_id id = {kind, (uint32_t)number(o, 4), (uint32_t)number(o + 4, 4),
-                                 (uint32_t)number(o + 8, 4)};
+    struct korvezul_mep_id id = {
+        {0}, (uint32_t)number(o, 4), (uint32_t)number(o + 4, 4), (uint32_t)number(o + 8, 4), kind, 0, 0};
     return id;
 }
 
-/* An open's body; one that does not fit has discriminator 0 and is answered 10 at the latest. */
+/* An open's body; one that does not fit has discriminator 0 and is answered 10 at the latest. Twelve
+ * octets are no value of a pseudowire. */
 static struct korvezul_settings settings_of(uint32_t label, const uint8_t *body, size_t n) {
     struct korvezul_settings s;
     memset(&s, 0, sizeof s);
     s.label = label;
-    if (n != 35 || body[34] > 3)
+    if (n != 35 || body[34] > 3 || number(body + 8, 2) == KORVEZUL_PSEUDOWIRE)
         return s;
     s.discriminator = (uint32_t)number(body, 4);
     s.period = (uint32_t)number(body + 4, 4);
@@ -194,7 +201,7 @@ static int play(void) {
         c.reading = number(begin, 8);
         c.label = (uint32_t)number(begin + 8, 4);
         c.settings = settings_of(c.label, body, size);
-        c.size = c.kind == RECEIVE ? size : KORVEZUL_CV_OCTETS;
+        c.size = c.kind == RECEIVE ? size : WATCH_CV;
         c.octets = lend(&lent, c.size, 1);
         if (c.kind == RECEIVE)
             memcpy(c.octets, body, size);
@@ -205,8 +212,16 @@ static int play(void) {
 
 /* ---- random calls, steered a little so that most of them mean something */
 
+/* AGIs of one or two lengths, mostly, which differ in one octet or in none; of other types too. */
 static struct korvezul_mep_id some_mep(uint16_t kind) {
-    struct korvezul_mep_id id = {kind, (uint32_t)below(2), (uint32_t)below(2), 0};
+    static const uint8_t lengths[] = {0, 1, 7, 8, 9, 16, 24, 25, 31, 32};
+    struct korvezul_mep_id id = {{1, 2, 3, 4}, (uint32_t)below(2), (uint32_t)below(2), 0, kind, 0, 0};
+    id.agi_type = (uint8_t)once_in(4);
+    id.agi_length = once_in(2) ? 9 : lengths[below(sizeof lengths)];
+    if (once_in(30))
+        id.agi_length = (uint8_t)(once_in(2) ? 33 : any());
+    if (once_in(2))
+        id.agi[below(4)] ^= UINT64_C(1) << below(64);
     return id;
 }
 
@@ -215,15 +230,18 @@ static uint32_t some_label(void) {
     return once_in(50) ? (uint32_t)any() : 16 + (uint32_t)below(once_in(2) ? 3 : 80);
 }
 
-static struct korvezul_settings some_settings(uint32_t label) {
+static uint16_t some_kind(void) { return (uint16_t)(once_in(30) ? below(5) : below(3)); }
+
+/* A capture has one kind for both MEP-IDs. */
+static struct korvezul_settings some_settings(uint32_t label, int as_watch) {
     struct korvezul_settings s;
     uint16_t kind = (uint16_t)(once_in(30) ? below(4) : below(2));
     memset(&s, 0, sizeof s);
     s.label = label;
     s.discriminator = once_in(40) ? 0 : once_in(8) ? 1 + (uint32_t)below(90) : label;
     s.period = once_in(40) ? (uint32_t)any() : once_in(2) ? 1000 : 1000000;
-    s.own = some_mep(kind);
-    s.expected = some_mep(kind);
+    s.own = some_mep(as_watch ? kind : some_kind());
+    s.expected = some_mep(as_watch ? kind : some_kind());
     s.follow_link = (uint8_t)below(2);
     s.follow_lock = (uint8_t)below(2);
     return s;
@@ -280,11 +298,12 @@ static struct korvezul_fault some_fault(void) {
 /* A plain message for a label: half of them, where there is a choice, as its peer would send it. */
 static size_t plain_message(uint8_t *o, uint32_t label) {
     struct korvezul_packet p = some_packet();
+    struct korvezul_mep_id id = some_mep((uint16_t)below(3));
     if (once_in(2))
         p.your = label;
     switch (below(3)) {
     case 0: return korvezul_write_cc_message(o, 128, p) == 0 ? 28 : 0;
-    case 1: return korvezul_write_cv_message(o, 128, p, some_mep((uint16_t)below(2))) == 0 ? 44 : 0;
+    case 1: return korvezul_write_cv_message(o, 128, p, id) == 0 ? cv_size(&id) : 0;
     default: return korvezul_write_fault_message(o, 128, some_fault()) == 0 ? 9 + o[8] : 0;
     }
 }
@@ -322,13 +341,13 @@ static struct call some_call(const struct korvezul_head *head, const struct lend
         c.kind = REPORT;
     c.label = some_label();
     c.reading = some_reading(head->clock);
-    c.settings = some_settings(c.label);
+    c.settings = some_settings(c.label, as_watch);
     if (c.kind == RECEIVE) {
         c.size = some_message(m, c.label);
         c.octets = lend(lent, c.size, as_watch || once_in(2));
         memcpy(c.octets, m, c.size);
     } else {
-        c.size = as_watch ? KORVEZUL_CV_OCTETS : below(80);
+        c.size = as_watch ? WATCH_CV : below(KORVEZUL_CV_OCTETS + 12);
         c.octets = lend(lent, c.size, as_watch || once_in(2));
         fill(c.octets, c.size);
     }
@@ -368,6 +387,8 @@ static int calls(uint64_t count, const char *path) {
         struct call c = some_call(head, &lent, 1);
         struct said s;
         record(to, &c);
+        if (c.kind == OPEN && c.settings.own.kind == KORVEZUL_PSEUDOWIRE)
+            c.settings.discriminator = 0; /* as `settings_of` reads it */
         s = make(row, KORVEZUL_RECORDS, head, &c);
         line(i, &c, &s);
     }
@@ -405,10 +426,20 @@ struct table {
     uint8_t octets[128];
 };
 
+/* The octets that an accepted call wrote. */
+static size_t written(const struct table *t, const struct call *c) {
+    if (c->kind == WRITE_CC)
+        return KORVEZUL_CC_OCTETS;
+    for (size_t i = 0; c->kind == WRITE_CV && i < KORVEZUL_RECORDS; i++)
+        if ((t->head.occupied >> i & 1) != 0 && t->row[i].settings.label == c->label)
+            return cv_size(&t->row[i].settings.own);
+    return 0;
+}
+
 static void look(const struct table *before, const struct table *after, size_t n, const struct call *c,
                  const struct said *s) {
     int changed = 0;
-    size_t kept = 0;
+    size_t kept = s->answer == 0 ? written(before, c) : 0;
     static const uint8_t noughts[7];
     must(may_answer(c->kind, s->answer), "an answer that this call does not give");
     must(n == KORVEZUL_RECORDS || s->answer == 26, "a row of another length is taken");
@@ -426,15 +457,15 @@ static void look(const struct table *before, const struct table *after, size_t n
          "the set of places changes");
     if (s->answer == 0 && c->kind <= RECEIVE)
         must(after->head.clock == c->reading, "the clock is not the reading");
-    if (c->kind == WRITE_CC || c->kind == WRITE_CV)
-        kept = c->kind == WRITE_CC ? KORVEZUL_CC_OCTETS : KORVEZUL_CV_OCTETS;
-    if (kept < c->size)
-        must(memcmp(before->octets + kept, after->octets + kept, c->size - kept) == 0,
-             "an octet behind what is written changes");
-    if (kept > 0 && s->answer == 0)
-        must(c->kind == WRITE_CC ? korvezul_read_cc(after->octets, c->size).answer == 0
-                                 : korvezul_read_cv(after->octets, c->size).answer == 0,
+    must(kept <= c->size, "more is written than there is room for");
+    must(memcmp(before->octets + kept, after->octets + kept, c->size - kept) == 0,
+         "an octet behind what is written changes");
+    if (kept > 0) {
+        struct korvezul_cc_read cc = korvezul_read_cc(after->octets, c->size);
+        struct korvezul_cv_read cv = korvezul_read_cv(after->octets, c->size);
+        must(c->kind == WRITE_CC ? cc.answer == 0 && cc.place == kept : cv.answer == 0 && cv.place == kept,
              "what is written is not read");
+    }
 }
 
 static int is_nought(const void *at, size_t n) {
@@ -471,8 +502,8 @@ static void look_at_places(const uint8_t *o, size_t n) {
     struct korvezul_fault_read fault = korvezul_read_fault(o, n);
     look_at_place(cc.answer, cc.place, n, is_nought(&cc.packet, 27));
     look_at_place(cv.answer, cv.place, n,
-                  is_nought(&cv.packet, 27) &&
-                      (cv.part | cv.mep.kind | cv.mep.global | cv.mep.node | cv.mep.local) == 0);
+                  is_nought(&cv.packet, 27) && is_nought(&cv.mep, sizeof cv.mep) &&
+                      (cv.part | cv.part_octets) == 0);
     look_at_place(fault.answer, fault.place, n, is_nought(&fault.fault, 18));
     if (cc.answer == 0)
         look_at_used(korvezul_read_cc(o, cc.place).answer, korvezul_read_cc(o, cc.place - 1).answer);
@@ -481,6 +512,27 @@ static void look_at_places(const uint8_t *o, size_t n) {
     if (fault.answer == 0)
         look_at_used(korvezul_read_fault(o, fault.place).answer,
                      korvezul_read_fault(o, fault.place - 1).answer);
+}
+
+/* An accepted CV that was read is written, and reads back to the same; the part is its MEP-ID. */
+static void look_at_cv(const uint8_t *o, size_t n, const struct korvezul_cv_read *cv) {
+    size_t size = cv_size(&cv->mep), part = cv->part_octets;
+    struct korvezul_mep_id_read alone = korvezul_read_mep_id(o + cv->part, part);
+    struct korvezul_cv_read r;
+    uint8_t again[128];
+    must(korvezul_write_cv_message(again, size, cv->packet, cv->mep) == 0,
+         "a CV that was read is not written");
+    must(korvezul_write_cv_message(again, size - 1, cv->packet, cv->mep) == KORVEZUL_BUFFER,
+         "a CV is written into a buffer that is too short");
+    r = korvezul_read_cv(again, size);
+    must(r.answer == 0 && memcmp(&r.packet, &cv->packet, 27) == 0 &&
+             memcmp(&r.mep, &cv->mep, sizeof r.mep) == 0,
+         "a CV reads back to something else");
+    must(cv->part + part <= n && part == size - 28 && memcmp(o + cv->part, again + 28, part) == 0,
+         "the MEP-ID part is not that of the message");
+    must(alone.answer == 0 && memcmp(&alone.mep, &cv->mep, sizeof alone.mep) == 0,
+         "the MEP-ID alone is another one");
+    must(korvezul_read_mep_id(o + cv->part, part - 1).answer == KORVEZUL_SHORT, "a cut MEP-ID is read");
 }
 
 /* What an accepted message says can be written, and reads back to the same. */
@@ -504,15 +556,8 @@ static void look_at_message(const struct lender *lent) {
         r = korvezul_read_cc(again, 28);
         must(r.answer == 0 && memcmp(&r.packet, &cc.packet, 27) == 0, "a CC reads back to something else");
     }
-    if (cv.answer == 0) {
-        struct korvezul_cv_read r;
-        must(korvezul_write_cv_message(again, 44, cv.packet, cv.mep) == 0,
-             "a CV that was read is not written");
-        r = korvezul_read_cv(again, 44);
-        must(r.answer == 0 && memcmp(&r.packet, &cv.packet, 27) == 0, "a CV reads back to something else");
-        must(cv.part + 16 <= n && memcmp(o + cv.part, again + 28, 16) == 0,
-             "the MEP-ID part is not that of the message");
-    }
+    if (cv.answer == 0)
+        look_at_cv(o, n, &cv);
     if (fault.answer == 0) {
         struct korvezul_fault_read r;
         must(korvezul_write_fault_message(again, 25, fault.fault) == 0,
@@ -524,12 +569,21 @@ static void look_at_message(const struct lender *lent) {
     must(memcmp(o, m, n) == 0, "a message that was lent to be read changes");
 }
 
+/* A MEP-ID without what is nobody's field. */
+static struct korvezul_mep_id plain(struct korvezul_mep_id id) {
+    if (id.kind != KORVEZUL_PSEUDOWIRE)
+        id.agi_type = id.agi_length = 0;
+    for (unsigned i = id.agi_length; i < 32; i++)
+        id.agi[i / 8] &= ~(UINT64_C(0xff) << (56 - 8 * (i % 8)));
+    return id;
+}
+
 /* Fields that are written read back to the same fields, every one of them. */
 static void look_at_fields(void) {
     struct korvezul_packet p = some_packet();
-    struct korvezul_mep_id id = some_mep((uint16_t)below(3));
+    struct korvezul_mep_id id = some_mep((uint16_t)below(4)), read = plain(id);
     struct korvezul_fault f = some_fault();
-    uint8_t m[KORVEZUL_CV_OCTETS];
+    uint8_t m[KORVEZUL_CV_OCTETS] = {0};
     at_fault = NULL;
     if (korvezul_write_cc_message(m, sizeof m, p) == 0) {
         struct korvezul_cc_read r = korvezul_read_cc(m, sizeof m);
@@ -537,8 +591,8 @@ static void look_at_fields(void) {
     }
     if (korvezul_write_cv_message(m, sizeof m, p, id) == 0) {
         struct korvezul_cv_read r = korvezul_read_cv(m, sizeof m);
-        must(r.answer == 0 && memcmp(&r.packet, &p, 27) == 0 && r.mep.kind == id.kind &&
-                 r.mep.global == id.global && r.mep.node == id.node && r.mep.local == id.local,
+        must(r.answer == 0 && r.place == cv_size(&id) && memcmp(&r.packet, &p, 27) == 0 &&
+                 memcmp(&r.mep, &read, sizeof read) == 0,
              "fields of a CV are lost");
     }
     if (korvezul_write_fault_message(m, sizeof m, f) == 0) {
@@ -620,7 +674,7 @@ static int at_random(double seconds) {
         /* the table that calls make goes on, and now and then begins again */
         if (messages % 20000 == 0)
             korvezul_empty(base.row, KORVEZUL_RECORDS, &base.head);
-        c = some_call(&base.head, &lent, 1);
+        c = some_call(&base.head, &lent, 0);
         if (c.reading < UINT64_C(1) << 62)
             make(base.row, KORVEZUL_RECORDS, &base.head, &c);
         some_table(&base, row, size, head);

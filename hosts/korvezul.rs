@@ -4,26 +4,33 @@
 use std::mem::{align_of, offset_of, size_of};
 
 pub const RECORDS: usize = 64;
-/// The version of the header that these declarations follow, 3.0.0.
-pub const VERSION: u32 = 0x030000;
+/// The version of the header that these declarations follow, 4.0.0.
+pub const VERSION: u32 = 0x040000;
+/// The longest plain CV.
+pub const CV_OCTETS: usize = 78;
 
+/// Of a pseudowire (kind 2) `local` is the AC_ID, `group` the AGI type and `size` the AGI length; octet i of the
+/// AGI is `agi[i / 8].to_be_bytes()[i % 8]`. `read_mep_id` makes one from its octets.
 #[repr(C)]
 #[derive(Clone, Copy, Debug, Default, PartialEq)]
 pub struct MepId {
-    pub kind: u16,
+    pub agi: [u64; 4],
     pub global: u32,
     pub node: u32,
     pub local: u32,
+    pub kind: u16,
+    pub group: u8,
+    pub size: u8,
 }
 
 #[repr(C)]
 #[derive(Clone, Copy, Debug, Default, PartialEq)]
 pub struct Settings {
+    pub own: MepId,
+    pub expected: MepId,
     pub label: u32,
     pub discriminator: u32,
     pub period: u32,
-    pub own: MepId,
-    pub expected: MepId,
     pub follow_link: u8,
     pub follow_lock: u8,
 }
@@ -132,7 +139,14 @@ pub struct CvRead {
     pub place: u64,
     pub answer: u32,
     pub part: u32,
+    pub part_octets: u32,
     pub packet: Packet,
+    pub mep: MepId,
+}
+
+#[repr(C)]
+pub struct MepIdRead {
+    pub answer: u32,
     pub mep: MepId,
 }
 
@@ -145,13 +159,16 @@ pub struct FaultRead {
 
 // The layout that the library was compiled with.
 const _: () = {
-    assert!(size_of::<Session>() == 208 && align_of::<Session>() == 8 && offset_of!(Session, settings) == 144);
-    assert!(offset_of!(Session, peer) == 192 && offset_of!(Session, state) == 200 && size_of::<Settings>() == 48);
+    assert!(size_of::<Session>() == 272 && align_of::<Session>() == 8 && offset_of!(Session, settings) == 144);
+    assert!(offset_of!(Session, peer) == 256 && offset_of!(Session, state) == 264 && size_of::<Settings>() == 112);
+    assert!(offset_of!(Settings, expected) == 48 && offset_of!(Settings, label) == 96 && size_of::<MepId>() == 48);
+    assert!(offset_of!(MepId, global) == 32 && offset_of!(MepId, kind) == 44 && offset_of!(MepId, size) == 47);
     assert!(size_of::<Condition>() == 32 && offset_of!(Condition, refresh) == 24 && size_of::<Head>() == 16);
     assert!(size_of::<ReportAnswer>() == 12 && size_of::<Packet>() == 28 && size_of::<Fault>() == 20);
-    assert!(size_of::<CcRead>() == 40 && size_of::<CvRead>() == 64 && size_of::<FaultRead>() == 32);
+    assert!(size_of::<CcRead>() == 40 && size_of::<CvRead>() == 96 && size_of::<FaultRead>() == 32);
     assert!(offset_of!(CcRead, answer) == 8 && offset_of!(CcRead, packet) == 12 && offset_of!(FaultRead, fault) == 12);
-    assert!(offset_of!(CvRead, part) == 12 && offset_of!(CvRead, packet) == 16 && offset_of!(CvRead, mep) == 44);
+    assert!(offset_of!(CvRead, part) == 12 && offset_of!(CvRead, packet) == 20 && offset_of!(CvRead, mep) == 48);
+    assert!(size_of::<MepIdRead>() == 56 && offset_of!(MepIdRead, mep) == 8);
 };
 
 extern "C" {
@@ -191,6 +208,7 @@ extern "C" {
     pub fn korvezul_read_cc(message: *const u8, octets: usize) -> CcRead;
     pub fn korvezul_read_cv(message: *const u8, octets: usize) -> CvRead;
     pub fn korvezul_read_fault(message: *const u8, octets: usize) -> FaultRead;
+    pub fn korvezul_read_mep_id(octets: *const u8, size: usize) -> MepIdRead;
     pub fn korvezul_write_cc_message(buffer: *mut u8, size: usize, packet: Packet) -> u32;
     pub fn korvezul_write_cv_message(buffer: *mut u8, size: usize, packet: Packet, mep: MepId) -> u32;
     pub fn korvezul_write_fault_message(buffer: *mut u8, size: usize, fault: Fault) -> u32;
@@ -264,6 +282,11 @@ pub fn read_cv(message: &[u8]) -> CvRead {
 
 pub fn read_fault(message: &[u8]) -> FaultRead {
     unsafe { korvezul_read_fault(message.as_ptr(), message.len()) }
+}
+
+/// A MEP-ID from its own octets, type to end.
+pub fn read_mep_id(octets: &[u8]) -> MepIdRead {
+    unsafe { korvezul_read_mep_id(octets.as_ptr(), octets.len()) }
 }
 
 pub fn write_cc_message(buffer: &mut [u8], packet: Packet) -> u32 {

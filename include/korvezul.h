@@ -29,19 +29,19 @@
 extern "C" {
 #endif
 
-/* The version of this header: 0x030000 is 3.0.0. korvezul_version() is the archive's; another major
+/* The version of this header: 0x040000 is 4.0.0. korvezul_version() is the archive's; another major
  * number is another layout or another meaning, and the two must agree in it. */
-#define KORVEZUL_VERSION_MAJOR 3
+#define KORVEZUL_VERSION_MAJOR 4
 #define KORVEZUL_VERSION_MINOR 0
 #define KORVEZUL_VERSION_PATCH 0
 #define KORVEZUL_VERSION \
     (KORVEZUL_VERSION_MAJOR * 0x10000 + KORVEZUL_VERSION_MINOR * 0x100 + KORVEZUL_VERSION_PATCH)
 
-/* The records of a row, and the octets of the messages that a session writes. */
+/* The records of a row, and the octets of a CC that a session writes. */
 #define KORVEZUL_RECORDS 64
 #define KORVEZUL_CC_OCTETS 28
-#define KORVEZUL_CV_OCTETS 44
-/* The longest plain fault message. */
+/* The longest plain CV, and the longest plain fault message. */
+#define KORVEZUL_CV_OCTETS 78
 #define KORVEZUL_FAULT_OCTETS 25
 
 enum korvezul_answer {
@@ -52,7 +52,7 @@ enum korvezul_answer {
     KORVEZUL_HEADER = 4,      /* its first nibble is not 1, or its G-ACh version not 0 */
     KORVEZUL_CHANNEL = 5,     /* its channel is not CC, CV or fault (a reader of one kind: not that one) */
     KORVEZUL_BFD = 6,         /* a BFD reception rule is broken */
-    KORVEZUL_MEP_ID = 7,      /* the MEP-ID's type is not 0 or 1, or its length not 12 */
+    KORVEZUL_MEP_ID = 7,      /* the MEP-ID's type is above 2, or its length or AGI length does not fit */
     KORVEZUL_FAULT = 8,       /* a field or a TLV of a fault message is wrong */
     KORVEZUL_CONDITIONS = 9,  /* a new condition, and four already stand */
     KORVEZUL_RANGE = 10,      /* a setting or a field to write is out of range, or would not be read */
@@ -70,24 +70,42 @@ enum korvezul_state {
     KORVEZUL_UP = 3
 };
 
+enum korvezul_kind {
+    KORVEZUL_SECTION = 0,
+    KORVEZUL_LSP = 1,
+    KORVEZUL_PSEUDOWIRE = 2
+};
+
 /* A maintenance end point. kind 0, Section: Global_ID, Node, Interface. kind 1, LSP: Global_ID,
- * Node, and in `local` the Tunnel number (high 16 bits) and the LSP number (low 16 bits). */
+ * Node, and in `local` the Tunnel number (high 16 bits) and the LSP number (low 16 bits). kind 2,
+ * pseudowire: Global_ID, Node, AC_ID, and an attachment group identifier of a type and of 0 to 32
+ * octets, `agi_length`. Octet i of the AGI is in agi[i / 8], the first of a word in its highest eight
+ * bits: (uint8_t)(agi[i / 8] >> (56 - 8 * (i % 8))), on any machine. korvezul_read_mep_id makes the
+ * struct from octets.
+ *
+ * What a kind does not use (of 0 and 1 all three of the AGI) and the octets of `agi` behind
+ * `agi_length` are nobody's: they may hold anything, are not written and not compared, and are 0 when
+ * read. The length that goes on the line follows from kind and `agi_length`. */
 struct korvezul_mep_id {
-    uint16_t kind;
+    uint64_t agi[4];
     uint32_t global;
     uint32_t node;
     uint32_t local;
+    uint16_t kind;
+    uint8_t agi_type;
+    uint8_t agi_length;
 };
 
-/* What a session is opened with: label 16 to 1,048,575; a local discriminator, not 0; the period in
- * microseconds, 1,000 to 10,000,000; the own and the expected MEP-ID, of one kind, 0 or 1; and the
- * marks "follow link-down" and "follow lock", 0 or 1. */
+/* What a session is opened with: the own and the expected MEP-ID, each of kind 0, 1 or 2, which may
+ * differ in kind too, with an `agi_length` up to 32 where the kind is 2; label 16 to 1,048,575; a local
+ * discriminator, not 0; the period in microseconds, 1,000 to 10,000,000; and the marks "follow
+ * link-down" and "follow lock", 0 or 1. */
 struct korvezul_settings {
+    struct korvezul_mep_id own;
+    struct korvezul_mep_id expected;
     uint32_t label;
     uint32_t discriminator;
     uint32_t period;
-    struct korvezul_mep_id own;
-    struct korvezul_mep_id expected;
     uint8_t follow_link;
     uint8_t follow_lock;
 };
@@ -188,7 +206,8 @@ struct korvezul_fault {
  *   4  0: nibble and G-ACh version are octet 0
  *   5  2, where the channel type starts
  *   6  the field that breaks the rule: 4 version, 5 A or M, 6 multiplier, 7 Length, 8 My, 12 Your
- *   7  the MEP-ID's type, at 4 + Length, or its length, at 4 + Length + 2
+ *   7  the MEP-ID's type, at 4 + Length; its length, at 4 + Length + 2; a pseudowire's AGI length, at
+ *      4 + Length + 17
  *   8  4 version, 5 type, 7 refresh; of the first wrong TLV its type octet if it is one stray octet,
  *      the second of a type 1 or 2, or goes past the total, else its length octet
  * Of several such fields it is the earliest. A place may be 0 beside a refusal: the answer tells. */
@@ -198,12 +217,20 @@ struct korvezul_cc_read {
     struct korvezul_packet packet;
 };
 
-/* The MEP-ID part of an accepted CV, type to end, is the 16 octets of the message from `part` on. */
+/* The MEP-ID part of an accepted CV, type to end, is the `part_octets` octets of the message from
+ * `part` on: 16, of a pseudowire 18 to 50. Both are 0 beside a refusal. */
 struct korvezul_cv_read {
     uint64_t place;
     uint32_t answer;
     uint32_t part;
+    uint32_t part_octets;
     struct korvezul_packet packet;
+    struct korvezul_mep_id mep;
+};
+
+/* A MEP-ID alone: 0 and its fields, or a refusal and noughts. */
+struct korvezul_mep_id_read {
+    uint32_t answer;
     struct korvezul_mep_id mep;
 };
 
@@ -236,7 +263,9 @@ uint32_t korvezul_unlock(struct korvezul_session *row, size_t records, struct ko
                          uint32_t label, uint64_t reading);
 
 /* A message of any octets, from the G-ACh header on, that came in on a label.
- * 26, 1, 2, 3, 4, 5; then of BFD 3, 6, 3, 7, 14; of a fault message 3, 8, 3, 8, 9. */
+ * 26, 1, 2, 3, 4, 5; then of a CC 3, 6, 3, 14; of a CV 3, 6, 3, 7, 3, 7, 14, the first 3 and 7 behind
+ * the packet for type and length of the MEP-ID, the second for its value; of a fault message 3, 8, 3, 8,
+ * 9. */
 uint32_t korvezul_receive(struct korvezul_session *row, size_t records, struct korvezul_head *head,
                           uint32_t label, const uint8_t *message, size_t octets, uint64_t reading);
 
@@ -248,21 +277,28 @@ uint32_t korvezul_tick(struct korvezul_session *row, size_t records, struct korv
 struct korvezul_report_answer korvezul_report(struct korvezul_session *row, size_t records,
                                               struct korvezul_head *head, uint32_t label);
 
-/* Writes the CC (28 octets) or the CV (44) that the session of a label is to send, at the clock, to
- * the front of a buffer of `size` octets; what lies behind is not touched. 26, 2, 13. */
+/* Writes the CC (28 octets) or the CV (44; 46 and the AGI's octets, up to 78, where the own MEP-ID is a
+ * pseudowire's) that the session of a label is to send, at the clock, to the front of a buffer of `size`
+ * octets; what lies behind is not touched. Where the host does not keep how long its CVs are,
+ * korvezul_read_cv of the buffer has it in `place`. 26, 2, 13. */
 uint32_t korvezul_write_cc(struct korvezul_session *row, size_t records, struct korvezul_head *head,
                            uint32_t label, uint8_t *buffer, size_t size);
 uint32_t korvezul_write_cv(struct korvezul_session *row, size_t records, struct korvezul_head *head,
                            uint32_t label, uint8_t *buffer, size_t size);
 
-/* Messages alone, without a table. Refusals: a CC 3, 4, 5, 3, 6, 3; a CV 3, 4, 5, 3, 6, 3, 7; a fault
- * message 3, 4, 5, 3, 8, 3, 8. */
+/* Messages alone, without a table. Refusals: a CC 3, 4, 5, 3, 6, 3; a CV 3, 4, 5, 3, 6, 3, 7, 3, 7; a
+ * fault message 3, 4, 5, 3, 8, 3, 8. */
 
 struct korvezul_cc_read korvezul_read_cc(const uint8_t *message, size_t octets);
 struct korvezul_cv_read korvezul_read_cv(const uint8_t *message, size_t octets);
 struct korvezul_fault_read korvezul_read_fault(const uint8_t *message, size_t octets);
 
-/* Plain messages from their fields: 28 octets, 44 octets, and 9, 15, 19 or 25. 10, 13. */
+/* A MEP-ID from its own octets, type to end, as it stands in a CV: to be opened with, or to be written.
+ * Octets behind it are ignored. 3, 7, 3, 7. */
+struct korvezul_mep_id_read korvezul_read_mep_id(const uint8_t *octets, size_t size);
+
+/* Plain messages from their fields: 28 octets; 44, of a pseudowire 46 to 78; and 9, 15, 19 or 25. 10,
+ * 13. */
 uint32_t korvezul_write_cc_message(uint8_t *buffer, size_t size, struct korvezul_packet packet);
 uint32_t korvezul_write_cv_message(uint8_t *buffer, size_t size, struct korvezul_packet packet,
                                    struct korvezul_mep_id mep);
@@ -282,22 +318,25 @@ uint32_t korvezul_write_fault_message(uint8_t *buffer, size_t size, struct korve
     }; \
     KORVEZUL_CHECK(type##_alignment, offsetof(struct korvezul_aligned_##type, value) == (to))
 
-KORVEZUL_SIZE(mep_id, 16);
-KORVEZUL_ALIGNED(mep_id, 4);
-KORVEZUL_PLACE(mep_id, kind, 0);
-KORVEZUL_PLACE(mep_id, global, 4);
-KORVEZUL_PLACE(mep_id, node, 8);
-KORVEZUL_PLACE(mep_id, local, 12);
+KORVEZUL_SIZE(mep_id, 48);
+KORVEZUL_ALIGNED(mep_id, 8);
+KORVEZUL_PLACE(mep_id, agi, 0);
+KORVEZUL_PLACE(mep_id, global, 32);
+KORVEZUL_PLACE(mep_id, node, 36);
+KORVEZUL_PLACE(mep_id, local, 40);
+KORVEZUL_PLACE(mep_id, kind, 44);
+KORVEZUL_PLACE(mep_id, agi_type, 46);
+KORVEZUL_PLACE(mep_id, agi_length, 47);
 
-KORVEZUL_SIZE(settings, 48);
-KORVEZUL_ALIGNED(settings, 4);
-KORVEZUL_PLACE(settings, label, 0);
-KORVEZUL_PLACE(settings, discriminator, 4);
-KORVEZUL_PLACE(settings, period, 8);
-KORVEZUL_PLACE(settings, own, 12);
-KORVEZUL_PLACE(settings, expected, 28);
-KORVEZUL_PLACE(settings, follow_link, 44);
-KORVEZUL_PLACE(settings, follow_lock, 45);
+KORVEZUL_SIZE(settings, 112);
+KORVEZUL_ALIGNED(settings, 8);
+KORVEZUL_PLACE(settings, own, 0);
+KORVEZUL_PLACE(settings, expected, 48);
+KORVEZUL_PLACE(settings, label, 96);
+KORVEZUL_PLACE(settings, discriminator, 100);
+KORVEZUL_PLACE(settings, period, 104);
+KORVEZUL_PLACE(settings, follow_link, 108);
+KORVEZUL_PLACE(settings, follow_lock, 109);
 
 KORVEZUL_SIZE(key, 16);
 KORVEZUL_ALIGNED(key, 4);
@@ -322,15 +361,15 @@ KORVEZUL_PLACE(peer, multiplier, 4);
 KORVEZUL_PLACE(peer, diagnostic, 5);
 KORVEZUL_PLACE(peer, owed, 6);
 
-KORVEZUL_SIZE(session, 208);
+KORVEZUL_SIZE(session, 272);
 KORVEZUL_ALIGNED(session, 8);
 KORVEZUL_PLACE(session, timed, 0);
 KORVEZUL_PLACE(session, crossed, 8);
 KORVEZUL_PLACE(session, conditions, 16);
 KORVEZUL_PLACE(session, settings, 144);
-KORVEZUL_PLACE(session, peer, 192);
-KORVEZUL_PLACE(session, state, 200);
-KORVEZUL_PLACE(session, crossing, 201);
+KORVEZUL_PLACE(session, peer, 256);
+KORVEZUL_PLACE(session, state, 264);
+KORVEZUL_PLACE(session, crossing, 265);
 
 KORVEZUL_SIZE(head, 16);
 KORVEZUL_ALIGNED(head, 8);
@@ -381,13 +420,19 @@ KORVEZUL_PLACE(cc_read, place, 0);
 KORVEZUL_PLACE(cc_read, answer, 8);
 KORVEZUL_PLACE(cc_read, packet, 12);
 
-KORVEZUL_SIZE(cv_read, 64);
+KORVEZUL_SIZE(cv_read, 96);
 KORVEZUL_ALIGNED(cv_read, 8);
 KORVEZUL_PLACE(cv_read, place, 0);
 KORVEZUL_PLACE(cv_read, answer, 8);
 KORVEZUL_PLACE(cv_read, part, 12);
-KORVEZUL_PLACE(cv_read, packet, 16);
-KORVEZUL_PLACE(cv_read, mep, 44);
+KORVEZUL_PLACE(cv_read, part_octets, 16);
+KORVEZUL_PLACE(cv_read, packet, 20);
+KORVEZUL_PLACE(cv_read, mep, 48);
+
+KORVEZUL_SIZE(mep_id_read, 56);
+KORVEZUL_ALIGNED(mep_id_read, 8);
+KORVEZUL_PLACE(mep_id_read, answer, 0);
+KORVEZUL_PLACE(mep_id_read, mep, 8);
 
 KORVEZUL_SIZE(fault_read, 32);
 KORVEZUL_ALIGNED(fault_read, 8);

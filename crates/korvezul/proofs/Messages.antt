@@ -4,7 +4,7 @@
 use mathlib.Core.Path.{_≡_, refl, sym, ap, _∙_}
 use mathlib.Core.Bool.{true}
 use mathlib.Core.List.{List, _++_}
-use Prim.Native.Nat.{ℕ, zero, suc, _<_}
+use Prim.Native.Nat.{ℕ, zero, suc, _+_, _<_}
 use native.Mathlib.Omega.{arith}
 use lib.Dec.{leb, eqb}
 use lib.ListN.{length, take, drop}
@@ -19,8 +19,11 @@ use Rattle.bfd.proofs.RoundTrip as bfd
 use Rattle.bfd.proofs.Used as cc-octets
 use Rattle.cv.specs.declared.MepId.{MepId}
 use Rattle.cv.specs.declared.Verification.{Verification}
-use Rattle.cv.specs.MepId.{mepOctets, MepSized}
-use Rattle.cv.specs.Cv.{mepAt, mepPart, partAt, verificationOf, readCv, cvRefusal, cvEnd, cvReading, cvOctets, cvFieldRefusal}
+use Rattle.cv.specs.Forms.{valueLength, mepFits}
+use Rattle.cv.specs.MepId.{mepOctets, plainMep, readMep, MepSized}
+use Rattle.cv.specs.Cv.{mepAt, lenAt, mepPart, partAt, verificationOf, readCv, cvRefusal, cvEnd, cvReading, cvSize, cvOctets, cvFieldRefusal}
+use Rattle.cv.proofs.Octets.{mep-length}
+use Rattle.cv.proofs.Says.{part-length}
 use Rattle.cv.proofs.RoundTrip as cv
 use Rattle.cv.proofs.Used as cv-octets
 use Rattle.fault.specs.declared.Fault.{Fault}
@@ -41,7 +44,7 @@ use Rattle.korvezul.specs.declared.readers.CcRead.{CcRead}
 use Rattle.korvezul.specs.declared.readers.CvRead.{CvRead}
 use Rattle.korvezul.specs.declared.readers.FaultRead.{FaultRead}
 use Rattle.korvezul.specs.Fields.{packetFields, packetFrom, packetMarks, faultFields, faultFrom, ifIdFrom, globalIdFrom, markedRefusal, faultMarks}
-use Rattle.korvezul.specs.Messages.{ccRead, cvRead, faultRead, ccWriteRefusal, cvWriteRefusal, faultWriteRefusal}
+use Rattle.korvezul.specs.Messages.{ccRead, cvRead, cvReadOf, mepRead, faultRead, ccWriteRefusal, cvWriteRefusal, faultWriteRefusal}
 
 -- a packet in numbers, and back
 pub packet-back : (p : Packet) → packetFrom (packetFields p) ≡ p
@@ -69,10 +72,10 @@ cc-accepted m p e =
     let r = answer-accepted (ccRefusal m) p (packetOf m) (sym e) in
     rw (cc-octets.place-used m (r .0), e)
 
-pub cv-accepted : (m : List ℕ) (part : ℕ) (v : Verification) → readCv m ≡ accepted v
-    → cvRead part (cvReading m) ≡ record { place = cvEnd m; answer = 0; part = part; packet = packetFields (v .packet); mep = v .mep }
+pub cv-accepted : (m : List ℕ) (part octets : ℕ) (v : Verification) → readCv m ≡ accepted v
+    → cvRead part octets (cvReading m) ≡ record { place = cvEnd m; answer = 0; part = part; octets = octets; packet = packetFields (v .packet); mep = v .mep }
 unfolding readCv
-cv-accepted m part v e =
+cv-accepted m part octets v e =
     let r = answer-accepted (cvRefusal m) v (verificationOf m) (sym e) in
     rw (cv-octets.place-used m (r .0), e)
 
@@ -91,13 +94,32 @@ cc-there-and-back f pad s e =
     cc-accepted (ccOctets (packetFrom f) ++ pad) (packetFrom f) (bfd.read-written (packetFrom f) pad s (o .1))
     ∙ ap {B = CcRead} (λ (g : PacketFields). record { place = 28; answer = 0; packet = g }) (fields-back f (o .0))
 
-pub cv-there-and-back : (f : PacketFields) (id : MepId) (part : ℕ) (pad : List ℕ) → Sized (packetFrom f) → MepSized id → cvWriteRefusal f id ≡ 0
-    → cvRead part (cvReading (cvOctets (packetFrom f) id ++ pad)) ≡ record { place = 44; answer = 0; part = part; packet = f; mep = id }
-unfolding packetOctets mepOctets
-cv-there-and-back f id part pad s t e =
+told : {place place′ part part′ octets octets′ : ℕ} {f g : PacketFields} (id : MepId) → place ≡ place′ → part ≡ part′ → octets ≡ octets′ → f ≡ g
+    → _≡_ {A = CvRead} (record { place = place; answer = 0; part = part; octets = octets; packet = f; mep = id }) (record { place = place′; answer = 0; part = part′; octets = octets′; packet = g; mep = id })
+told id a b c d = rw (a, b, c, d)
+
+-- the length that stands in a written CV
+written-length : (p : Packet) (id : MepId) (pad : List ℕ) → Sized p → MepSized id → cvFieldRefusal p id ≡ 0
+    → 4 + lenAt (cvOctets p id ++ pad) ≡ 4 + valueLength (id .kind) (id .size)
+written-length p id pad s t e =
+    sym (part-length (cvOctets p id ++ pad) (cv.written-accepted p id pad s t e)) ∙ ap length (cv.written-part p id pad s t e) ∙ mep-length id
+
+-- the same for a CV, of any MEP-ID: its part stands behind the packet in as many octets as were written, and what is nobody's field reads as nought
+pub cv-there-and-back : (f : PacketFields) (id : MepId) (pad : List ℕ) → Sized (packetFrom f) → MepSized id → cvWriteRefusal f id ≡ 0
+    → (m : List ℕ) → m ≡ cvOctets (packetFrom f) id ++ pad
+    → cvReadOf m ≡ record { place = cvSize id; answer = 0; part = 28; octets = 4 + valueLength (id .kind) (id .size); packet = f; mep = plainMep id }
+unfolding packetOctets
+cv-there-and-back f id pad s t e m is =
     let o = orElse-passed (packetMarks f) (cvFieldRefusal (packetFrom f) id) e in
-    cv-accepted (cvOctets (packetFrom f) id ++ pad) part _ (cv.read-written (packetFrom f) id pad s t (o .1))
-    ∙ ap {B = CvRead} (λ (g : PacketFields). record { place = 44; answer = 0; part = part; packet = g; mep = id }) (fields-back f (o .0))
+    let long : 4 + lenAt m ≡ 4 + valueLength (id .kind) (id .size) = rw is (written-length (packetFrom f) id pad s t (o .1)) in
+    let at : mepAt m ≡ 28 = rw is in
+    cv-accepted m (mepAt m) (4 + lenAt m) _ (ap readCv is ∙ cv.read-written (packetFrom f) id pad s t (o .1))
+    ∙ told (plainMep id) (omega (arith, at, long)) at long (fields-back f (o .0))
+
+-- the octets of a MEP-ID in range, read alone
+pub mep-there-and-back : (id : MepId) (pad : List ℕ) → MepSized id → mepFits (id .kind) (id .size) ≡ true
+    → mepRead (readMep (mepOctets id ++ pad)) ≡ record { answer = 0; mep = plainMep id }
+mep-there-and-back id pad t fits = ap mepRead (cv.read-mep-written id pad t fits)
 
 if-id-back : (i : IfId) → ifIdFrom (ifIdMark i) (nodeOf i) (interfaceOf i) ≡ i
 if-id-back NoIfId = refl
@@ -189,12 +211,18 @@ fault-there-and-back f pad s e =
     fault-accepted (faultOctets m ++ pad) m (fault.read-written m pad s (o .1))
     ∙ rw (written-end m (m .interface) (m .global) pad refl refl, fault-fields-back f (o .0))
 
--- the stretch of an accepted CV stands at the place that its reader hands out
-pub part-stands : (m : List ℕ) → cvRefusal m ≡ 0 → mepPart m ≡ take 16 (drop (cvRead (mepAt m) (cvReading m) .part) m)
+-- the stretch of a CV stands from the place that its reader hands out, in as many octets; of a refused one it is empty
+pub part-stands : (m : List ℕ)
+    → mepPart m ≡ take (cvReadOf m .octets) (drop (cvReadOf m .part) m)
 unfolding mepPart readCv
-part-stands m e = rw (eq-eqb (cvRefusal m) 0 e)
+part-stands m = split (eqb (cvRefusal m) 0) (λ e. rw e) (λ e. rw e)
+
+-- and read alone it is the MEP-ID that the reader of the CV hands out
+pub part-alone : (m : List ℕ) → cvRefusal m ≡ 0 → mepRead (readMep (mepPart m)) ≡ record { answer = 0; mep = cvReadOf m .mep }
+unfolding readCv
+part-alone m e = ap mepRead (cv.read-mep-part m e) ∙ rw (eq-eqb (cvRefusal m) 0 e)
 
 -- and where `cv::mep_part` says that its part lies, of a refused message too
-pub part-lies : (m : List ℕ) → cvRead (mepAt m) (cvReading m) .part ≡ partAt m
+pub part-lies : (m : List ℕ) → cvReadOf m .part ≡ partAt m
 unfolding partAt readCv
 part-lies m = split (eqb (cvRefusal m) 0) (λ e. rw e) (λ e. rw e)

@@ -6,6 +6,7 @@ use mathlib.Core.List.{List, [], _∷_}
 use mathlib.Core.Option.{Option, none, some}
 use mir.Syntax.{Ty}
 use prog.Memory.{size, align, fieldOf}
+use Rattle.cv.proofs.Agi.Laws.{mir as agi}
 use Rattle.cv.proofs.MepId.Laws.{mir as mep-id}
 use Rattle.rules.proofs.Settings.Laws.{mir as settings}
 use Rattle.rules.proofs.Key.Laws.{mir as key}
@@ -19,6 +20,7 @@ use Rattle.korvezul.proofs.fields.PacketFields.Laws.{mir as packet}
 use Rattle.korvezul.proofs.fields.FaultFields.Laws.{mir as fault}
 use Rattle.korvezul.proofs.readers.CcRead.Laws.{mir as cc-read}
 use Rattle.korvezul.proofs.readers.CvRead.Laws.{mir as cv-read}
+use Rattle.korvezul.proofs.readers.MepIdRead.Laws.{mir as mep-id-read}
 use Rattle.korvezul.proofs.readers.FaultRead.Laws.{mir as fault-read}
 
 -- a field that begins there
@@ -37,10 +39,13 @@ pub record Laid (τ : Ty) (n k : ℕ) (places : List ℕ) : Type 0 where
   pub aligned : align τ ≡ k
   pub fields : stand τ zero places
 
-pub mep-id-laid : Laid mep-id 16 4 (0 ∷ 4 ∷ 8 ∷ 12 ∷ [])
-mep-id-laid = record { octets = refl; aligned = refl; fields = (refl, (refl, (refl, (refl, refl)))) }
+pub agi-laid : Laid agi 32 8 (0 ∷ 8 ∷ 16 ∷ 24 ∷ [])
+agi-laid = record { octets = refl; aligned = refl; fields = (refl, (refl, (refl, (refl, refl)))) }
 
-pub settings-laid : Laid settings 48 4 (0 ∷ 4 ∷ 8 ∷ 12 ∷ 28 ∷ 44 ∷ 45 ∷ [])
+pub mep-id-laid : Laid mep-id 48 8 (0 ∷ 32 ∷ 36 ∷ 40 ∷ 44 ∷ 46 ∷ 47 ∷ [])
+mep-id-laid = record { octets = refl; aligned = refl; fields = (refl, (refl, (refl, (refl, (refl, (refl, (refl, refl))))))) }
+
+pub settings-laid : Laid settings 112 8 (0 ∷ 48 ∷ 96 ∷ 100 ∷ 104 ∷ 108 ∷ 109 ∷ [])
 settings-laid = record { octets = refl; aligned = refl; fields = (refl, (refl, (refl, (refl, (refl, (refl, (refl, refl))))))) }
 
 pub key-laid : Laid key 16 4 (0 ∷ 4 ∷ 8 ∷ 12 ∷ 13 ∷ 14 ∷ [])
@@ -55,7 +60,7 @@ conditions-laid = record { octets = refl; aligned = refl; fields = (refl, (refl,
 pub peer-laid : Laid peer 8 4 (0 ∷ 4 ∷ 5 ∷ 6 ∷ [])
 peer-laid = record { octets = refl; aligned = refl; fields = (refl, (refl, (refl, (refl, refl)))) }
 
-pub session-laid : Laid session 208 8 (0 ∷ 8 ∷ 16 ∷ 144 ∷ 192 ∷ 200 ∷ 201 ∷ [])
+pub session-laid : Laid session 272 8 (0 ∷ 8 ∷ 16 ∷ 144 ∷ 256 ∷ 264 ∷ 265 ∷ [])
 session-laid = record { octets = refl; aligned = refl; fields = (refl, (refl, (refl, (refl, (refl, (refl, (refl, refl))))))) }
 
 pub head-laid : Laid head 16 8 (0 ∷ 8 ∷ [])
@@ -73,8 +78,11 @@ fault-laid = record { octets = refl; aligned = refl; fields = (refl, (refl, (ref
 pub cc-read-laid : Laid cc-read 40 8 (0 ∷ 8 ∷ 12 ∷ [])
 cc-read-laid = record { octets = refl; aligned = refl; fields = (refl, (refl, (refl, refl))) }
 
-pub cv-read-laid : Laid cv-read 64 8 (0 ∷ 8 ∷ 12 ∷ 16 ∷ 44 ∷ [])
-cv-read-laid = record { octets = refl; aligned = refl; fields = (refl, (refl, (refl, (refl, (refl, refl))))) }
+pub cv-read-laid : Laid cv-read 96 8 (0 ∷ 8 ∷ 12 ∷ 16 ∷ 20 ∷ 48 ∷ [])
+cv-read-laid = record { octets = refl; aligned = refl; fields = (refl, (refl, (refl, (refl, (refl, (refl, refl)))))) }
+
+pub mep-id-read-laid : Laid mep-id-read 56 8 (0 ∷ 8 ∷ [])
+mep-id-read-laid = record { octets = refl; aligned = refl; fields = (refl, (refl, refl)) }
 
 pub fault-read-laid : Laid fault-read 32 8 (0 ∷ 8 ∷ 12 ∷ [])
 fault-read-laid = record { octets = refl; aligned = refl; fields = (refl, (refl, (refl, refl))) }

@@ -1,10 +1,10 @@
 -- Where each field of a message stands among its octets, counted from the channel header's first: the documents' own places, said of the numbers that a host
 -- hands in or is handed. The structs between, and the definitions that fill them, have no part in it.
 -- Assumes nothing.
-use Prim.Native.Nat.{ℕ, _+_, _*_, _/_, _%_}
+use Prim.Native.Nat.{ℕ, _+_, _*_, _/_, _%_, _<_}
 use mathlib.Core.Path.{_≡_}
 use mathlib.Core.List.{List}
-use lib.ListN.{getD}
+use lib.ListN.{getD, take, drop}
 use Rattle.octets.specs.Numbers.{numberAt}
 use Rattle.cv.specs.declared.MepId.{MepId}
 use Rattle.korvezul.specs.declared.fields.PacketFields.{PacketFields}
@@ -25,13 +25,30 @@ pub record PacketStands (m : List ℕ) (f : PacketFields) : Type 0 where
   pub receive : numberAt 4 m 20 ≡ f .receive
   pub echo : numberAt 4 m 24 ≡ f .echo
 
--- a MEP-ID whose type begins at a place (RFC 6428, 3.5): its length 12 follows the type
+-- the octets of the AGI of a pseudowire's MEP-ID whose type begins at a place: as many as its AGI length says
+abbrev pub agiIn : List ℕ → ℕ → MepId → List ℕ
+agiIn m place id = take (id .size) (drop (place + 18) m)
+
+-- the AGI of a pseudowire: its type and its length before it, eight octets of it to a word with the first one highest, and noughts behind them; the length
+-- of the value makes up with that of the AGI
+pub record AgiStands (m : List ℕ) (place : ℕ) (id : MepId) : Type 0 where
+  pub length : numberAt 2 m (place + 2) ≡ 14 + id .size
+  pub group : getD m (place + 16) 0 ≡ id .group
+  pub size : getD m (place + 17) 0 ≡ id .size
+  pub first : numberAt 8 (agiIn m place id) 0 ≡ id .agi .first
+  pub second : numberAt 8 (agiIn m place id) 8 ≡ id .agi .second
+  pub third : numberAt 8 (agiIn m place id) 16 ≡ id .agi .third
+  pub fourth : numberAt 8 (agiIn m place id) 24 ≡ id .agi .fourth
+
+-- a MEP-ID whose type begins at a place (RFC 6428, 3.5): 0, 1 or 2; of the first two the length 12 follows the type
 pub record MepStands (m : List ℕ) (place : ℕ) (id : MepId) : Type 0 where
+  pub known : id .kind < 3
   pub kind : numberAt 2 m place ≡ id .kind
-  pub size : numberAt 2 m (place + 2) ≡ 12
+  pub fixed : id .kind < 2 → numberAt 2 m (place + 2) ≡ 12
   pub global : numberAt 4 m (place + 4) ≡ id .global
   pub node : numberAt 4 m (place + 8) ≡ id .node
   pub local : numberAt 4 m (place + 12) ≡ id .local
+  pub agi : id .kind ≡ 2 → AgiStands m place id
 
 -- an IF_ID TLV: type 1, length 8, Node and Interface (RFC 6427, 4.1)
 pub record IfIdStands (m : List ℕ) (place : ℕ) (f : FaultFields) : Type 0 where

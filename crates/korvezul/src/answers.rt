@@ -5,6 +5,7 @@ use step::Outcome;
 ghost use mathlib.Core.Path.{_≡_};
 ghost use Rattle.octets.specs.Writing.{writing};
 ghost use Rattle.rules.specs.Calls.{noReport};
+ghost use Rattle.step.specs.Saying.{cvTold};
 ghost use Rattle.korvezul.specs.Calling.{answeredWith, reportOf};
 
 pub fn number(o: Outcome) -> u32
@@ -63,8 +64,10 @@ pub fn put_cc(buffer: &mut [u8], o: Outcome) -> u32
 }
 
 pub fn put_cv(buffer: &mut [u8], o: Outcome) -> u32
-    ensures { λ r. ⌜ record { answer = r; buffer = now (buffer .exit) } ≡ writing (o .answer) (o .told .cv) (now (buffer .entry)) ⌝ }
+    ensures { λ r. ⌜ record { answer = r; buffer = now (buffer .exit) } ≡ writing (o .answer) (cvTold (o .told)) (now (buffer .entry)) ⌝ }
 {
-    let octets = o.told.cv;
-    octets::write_octets(buffer, o.answer, &octets)
+    let told = o.told.cv;
+    let count = told.count;
+    let whole = told.octets;
+    octets::write_octets(buffer, o.answer, octets::part(&whole, 0, count))
 }

@@ -5,15 +5,18 @@ use crate::fields::PacketFields;
 use crate::fields::fault_fields;
 use crate::fields::packet_fields;
 use bfd::CcAnswer;
+use cv::Agi;
 use cv::CvAnswer;
+use cv::MepAnswer;
 use cv::MepId;
 use fault::FaultAnswer;
 ghost use mathlib.Core.Path.{_≡_};
 ghost use Rattle.bfd.specs.Packet.{said as ccSaid};
 ghost use Rattle.bfd.specs.Reception.{ccReading};
-ghost use Rattle.cv.specs.Cv.{said as cvSaid, cvReading, mepAt};
+ghost use Rattle.cv.specs.MepId.{mepSaid, noAgi, readMep};
+ghost use Rattle.cv.specs.Cv.{said as cvSaid};
 ghost use Rattle.fault.specs.Message.{said as faultSaid, faultReading};
-ghost use Rattle.korvezul.specs.Messages.{noPacket, noMep, noFault, ccRead, cvRead, faultRead};
+ghost use Rattle.korvezul.specs.Messages.{noPacket, noMep, noFault, ccRead, cvRead, cvReadOf, mepRead, faultRead};
 
 #[repr(C)]
 pub struct CcRead {
@@ -22,14 +25,22 @@ pub struct CcRead {
     pub packet: PacketFields,
 }
 
-// A CV's packet and MEP-ID, and the place in the message where the 16 octets of its MEP-ID part
-// stand, type to end.
+// A CV's packet and MEP-ID, and the part of the message that is its MEP-ID, type to end: the place
+// from which it stands, and its octets, 16, or 18 to 50.
 #[repr(C)]
 pub struct CvRead {
     pub place: u64,
     pub answer: u32,
     pub part: u32,
+    pub octets: u32,
     pub packet: PacketFields,
+    pub mep: MepId,
+}
+
+// A MEP-ID alone.
+#[repr(C)]
+pub struct MepIdRead {
+    pub answer: u32,
     pub mep: MepId,
 }
 
@@ -59,14 +70,29 @@ fn no_packet() -> PacketFields
     }
 }
 
+fn no_agi() -> Agi
+    ensures { λ r. ⌜ r ≡ noAgi ⌝ }
+{
+    Agi {
+        first: 0,
+        second: 0,
+        third: 0,
+        fourth: 0,
+    }
+}
+
 fn no_mep() -> MepId
     ensures { λ r. ⌜ r ≡ noMep ⌝ }
 {
+    let agi = no_agi();
     MepId {
-        kind: 0,
+        agi,
         global: 0,
         node: 0,
         local: 0,
+        kind: 0,
+        group: 0,
+        size: 0,
     }
 }
 
@@ -109,8 +135,8 @@ fn cc_read(a: CcAnswer) -> CcRead
     }
 }
 
-fn cv_read(part: u32, a: CvAnswer) -> CvRead
-    ensures { λ r. ⌜ r ≡ cvRead part (cvSaid a) ⌝ }
+fn cv_read(part: u32, octets: u32, a: CvAnswer) -> CvRead
+    ensures { λ r. ⌜ r ≡ cvRead part octets (cvSaid a) ⌝ }
 {
     match a {
         CvAnswer::Read(v, place) => {
@@ -121,6 +147,7 @@ fn cv_read(part: u32, a: CvAnswer) -> CvRead
                 place: place as u64,
                 answer: 0,
                 part: part,
+                octets: octets,
                 packet: f,
                 mep: id,
             }
@@ -132,9 +159,22 @@ fn cv_read(part: u32, a: CvAnswer) -> CvRead
                 place: place as u64,
                 answer: n,
                 part: 0,
+                octets: 0,
                 packet: f,
                 mep: id,
             }
+        }
+    }
+}
+
+fn mep_read(a: MepAnswer) -> MepIdRead
+    ensures { λ r. ⌜ r ≡ mepRead (mepSaid a) ⌝ }
+{
+    match a {
+        MepAnswer::Read(id) => MepIdRead { answer: 0, mep: id },
+        MepAnswer::Refused(n) => {
+            let id = no_mep();
+            MepIdRead { answer: n, mep: id }
         }
     }
 }
@@ -173,10 +213,19 @@ pub extern "C" fn korvezul_read_cc(message: &[u8]) -> CcRead
 // Reads a CV.
 #[no_mangle]
 pub extern "C" fn korvezul_read_cv(message: &[u8]) -> CvRead
-    ensures { λ r. ⌜ r ≡ cvRead (mepAt (now (message .entry))) (cvReading (now (message .entry))) ⌝ }
+    ensures { λ r. ⌜ r ≡ cvReadOf (now (message .entry)) ⌝ }
 {
-    let length = octets::get_u8(message, 7);
-    cv_read(4 + length as u32, cv::read_cv(message))
+    let part = 4 + octets::get_u8(message, 7) as u32;
+    let length = octets::get_u16(message, part as usize + 2);
+    cv_read(part, 4 + length as u32, cv::read_cv(message))
+}
+
+// Reads a MEP-ID alone, from its octets, type to end.
+#[no_mangle]
+pub extern "C" fn korvezul_read_mep_id(octets: &[u8]) -> MepIdRead
+    ensures { λ r. ⌜ r ≡ mepRead (readMep (now (octets .entry))) ⌝ }
+{
+    mep_read(cv::read_mep_id(octets))
 }
 
 // Reads a fault message.

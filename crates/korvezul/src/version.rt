@@ -2,10 +2,10 @@
 ghost use mathlib.Core.Path.{_≡_};
 ghost use Rattle.korvezul.specs.Version.{version};
 
-// 3.0.0: the key of a condition has the Global_ID.
+// 4.0.0: a MEP-ID may be a pseudowire's.
 #[no_mangle]
 pub extern "C" fn korvezul_version() -> u32
     ensures { λ r. ⌜ r ≡ version ⌝ }
 {
-    196608
+    262144
 }

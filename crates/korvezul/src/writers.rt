@@ -28,7 +28,7 @@ pub extern "C" fn korvezul_write_cc_message(buffer: &mut [u8], packet: PacketFie
     marks
 }
 
-// Writes a plain CV, 44 octets.
+// Writes a plain CV, 44 octets; of a pseudowire 46 to 78.
 #[no_mangle]
 pub extern "C" fn korvezul_write_cv_message(
     buffer: &mut [u8],

@@ -17,5 +17,5 @@ cv-read-spec =
     (λ c. search needs)
     (λ c κs. search needs)
     (λ c κs. search needs)
-    (λ c. rw (c .before .packet-fields .ensures) (ap (λ (a : CvAnswer). cvRead (c .before .before .before .before .before .before .args .part) (said a)) (sym (c .before .before .before .before .a .given .1))))
-    (λ c. rw (c .no-mep .ensures, c .before .no-packet .ensures) (ap (λ (a : CvAnswer). cvRead (c .before .before .before .before .before .args .part) (said a)) (sym (c .before .before .before .a2 .given .1)))))
+    (λ c. rw (c .before .packet-fields .ensures) (ap (λ (a : CvAnswer). cvRead (c .before .before .before .before .before .before .args .part) (c .before .before .before .before .before .before .args .octets) (said a)) (sym (c .before .before .before .before .a .given .1))))
+    (λ c. rw (c .no-mep .ensures, c .before .no-packet .ensures) (ap (λ (a : CvAnswer). cvRead (c .before .before .before .before .before .args .part) (c .before .before .before .before .before .args .octets) (said a)) (sym (c .before .before .before .a2 .given .1)))))
