@@ -3,6 +3,7 @@
 use crate::capture::{Kind, Next, Reader, Record};
 use crate::edges::{self, Edge};
 use crate::make;
+use crate::mep_id::{LONGEST_VALUE, PSEUDOWIRE, SECTION};
 use crate::message::{self, Message, State};
 use crate::places;
 use crate::session::{Report, Session};
@@ -24,7 +25,7 @@ const DEFECTS: [&str; 7] = [
 ];
 const EDGES: [&str; 3] = ["detection time", "misconnectivity", "condition"];
 const WAYS: [&str; 3] = ["any call", "message on it", "seen on it"];
-const EXTRAS: [&str; 14] = [
+const EXTRAS: [&str; 19] = [
     "accepted CC",
     "accepted CV",
     "accepted AIS or LKR",
@@ -39,6 +40,11 @@ const EXTRAS: [&str; 14] = [
     "crossed in INIT",
     "R beside a condition that differs in Global_ID alone",
     "condition beside one that differs in Global_ID alone",
+    "crossed by a pseudowire on a Section session",
+    "crossed by a pseudowire on an LSP session",
+    "accepted pseudowire with an AGI of 0",
+    "accepted pseudowire with an AGI of 32",
+    "accepted pseudowire with the expected numbers",
 ];
 const ENDS: [&str; 3] = ["whole", "cut", "bad header"];
 
@@ -56,7 +62,7 @@ struct Counts {
     edges: [[Sides; 3]; 3],
     clock: Sides,
     largest: Sides,
-    extras: [u64; 14],
+    extras: [u64; EXTRAS.len()],
     ends: [u64; 3],
 }
 
@@ -157,6 +163,23 @@ impl Counts {
         if let Some(session) = before.iter().find(|s| s.settings.label == record.label) {
             self.add_held(session, &read.message, record.time);
             self.add_carriers(session, &read.message, record.time);
+            self.add_pseudowire(session, &read.message);
+        }
+    }
+
+    /// Counts the pseudowires that a session of another type meets.
+    fn add_pseudowire(&mut self, session: &Session, message: &Message) {
+        let expected = session.settings.expected;
+        match message {
+            Message::Cv(_, source) if source.kind() == PSEUDOWIRE => {
+                let section = expected.kind() == SECTION;
+                self.extras[14] += u64::from(section);
+                self.extras[15] += u64::from(!section);
+                self.extras[16] += u64::from(source.value().len() == 14);
+                self.extras[17] += u64::from(source.value().len() == LONGEST_VALUE);
+                self.extras[18] += u64::from(source.value()[..12] == *expected.value());
+            }
+            _ => {}
         }
     }
 

@@ -13,6 +13,7 @@ pub mod distinct;
 pub mod edges;
 pub mod load;
 pub mod make;
+pub mod mep_id;
 pub mod message;
 pub mod octets;
 pub mod own;

@@ -4,16 +4,14 @@
 //! first octet of the field that broke the rule, the earliest if there are
 //! several, or the length of the message if it is too short.
 
-use crate::octets::{array, be16, be32};
+use crate::mep_id::{self, MepId};
+use crate::octets::{be16, be32};
 use crate::refusal::{Refusal, Refused};
 
 /// Length of the associated channel header.
 const CHANNEL_HEADER: usize = 4;
 /// Length of the mandatory part of a BFD packet.
 const BFD_PACKET: usize = 24;
-/// Length of the MEP-ID part of a CV: type, length and twelve octets.
-const MEP_ID_PART: usize = 4 + MEP_ID_VALUE;
-const MEP_ID_VALUE: usize = 12;
 /// Length of a fault message up to its TLVs, channel header included.
 const FAULT_HEAD: usize = 9;
 
@@ -52,13 +50,6 @@ pub struct Bfd {
     pub multiplier: u8,
     pub my_discriminator: u32,
     pub your_discriminator: u32,
-}
-
-/// A maintenance end point identifier: Section (0) or LSP (1).
-#[derive(Clone, Copy, Debug, PartialEq, Eq)]
-pub struct MepId {
-    pub kind: u16,
-    pub value: [u8; 12],
 }
 
 /// The two kinds of fault message.
@@ -144,10 +135,7 @@ fn read_cc(message: &[u8]) -> Result<Read, Refused> {
 
 fn read_cv(message: &[u8]) -> Result<Read, Refused> {
     let bfd = read_bfd(message, false)?;
-    let start = bfd_end(message);
-    let used = start + MEP_ID_PART;
-    reach(message, used)?;
-    let mep_id = read_mep_id(message, start)?;
+    let (mep_id, used) = mep_id::read(message, bfd_end(message))?;
     Ok(Read {
         message: Message::Cv(bfd, mep_id),
         used,
@@ -200,21 +188,6 @@ fn broken_field(message: &[u8], bfd: &Bfd, is_cc: bool) -> Option<usize> {
     } else {
         None
     }
-}
-
-/// Reads the MEP-ID part that starts at `at`.
-fn read_mep_id(message: &[u8], at: usize) -> Result<MepId, Refused> {
-    let kind = be16(message, at);
-    if kind > 1 {
-        return Err(Refusal::MepId.at(at));
-    }
-    if usize::from(be16(message, at + 2)) != MEP_ID_VALUE {
-        return Err(Refusal::MepId.at(at + 2));
-    }
-    Ok(MepId {
-        kind,
-        value: array(message, at + 4),
-    })
 }
 
 fn read_fault(message: &[u8]) -> Result<Read, Refused> {

@@ -16,7 +16,8 @@ pub enum Refusal {
     ChannelType = 5,
     /// A BFD reception rule is broken.
     Bfd = 6,
-    /// The MEP-ID has an unknown type or a wrong length.
+    /// The MEP-ID has an unknown type, a length that its type does not allow,
+    /// or an AGI length at odds with its length.
     MepId = 7,
     /// A fault message has a wrong field or TLV.
     Fault = 8,

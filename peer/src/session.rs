@@ -1,8 +1,7 @@
 //! One session: what it keeps, how it moves and what it says of itself.
 
-use crate::message::{
-    Bfd, Fault, FaultKind, MepId, Message, Origin, State, CHANNEL_CC, CHANNEL_CV,
-};
+use crate::mep_id::{MepId, LONGEST_VALUE};
+use crate::message::{Bfd, Fault, FaultKind, Message, Origin, State, CHANNEL_CC, CHANNEL_CV};
 use crate::refusal::Refusal;
 use crate::settings::Settings;
 
@@ -55,10 +54,16 @@ pub struct Report {
     pub conditions: usize,
 }
 
-/// The octets of a written CC (28) or CV (44).
+/// The octets of a CC, and of a CV before the value of its MEP-ID.
+const CC_OCTETS: usize = 28;
+const CV_HEAD: usize = 32;
+/// The octets of the longest CV: 78.
+const LONGEST_CV: usize = CV_HEAD + LONGEST_VALUE;
+
+/// The octets of a written CC (28) or CV (44, for a pseudowire 46 to 78).
 #[derive(Clone, Copy, Debug, PartialEq, Eq)]
 pub struct Written {
-    octets: [u8; 44],
+    octets: [u8; LONGEST_CV],
     length: usize,
 }
 
@@ -329,27 +334,30 @@ impl Session {
 
     /// Writes a CC. A reply owed is given with it.
     pub fn write_cc(&mut self, now: u64) -> Written {
-        let mut octets = [0; 44];
+        let mut octets = [0; LONGEST_CV];
         self.write_bfd(&mut octets, CHANNEL_CC, now);
         if self.reply_owed {
             octets[5] |= 0x10;
             self.reply_owed = false;
         }
-        Written { octets, length: 28 }
+        let length = CC_OCTETS;
+        Written { octets, length }
     }
 
     /// Writes a CV. It never carries a reply.
     pub fn write_cv(&self, now: u64) -> Written {
-        let mut octets = [0; 44];
+        let mut octets = [0; LONGEST_CV];
         self.write_bfd(&mut octets, CHANNEL_CV, now);
-        octets[28..30].copy_from_slice(&self.settings.own.kind.to_be_bytes());
-        octets[30..32].copy_from_slice(&12u16.to_be_bytes());
-        octets[32..44].copy_from_slice(&self.settings.own.value);
-        Written { octets, length: 44 }
+        let value = self.settings.own.value();
+        let length = CV_HEAD + value.len();
+        octets[28..30].copy_from_slice(&self.settings.own.kind().to_be_bytes());
+        octets[30..CV_HEAD].copy_from_slice(&(value.len() as u16).to_be_bytes());
+        octets[CV_HEAD..length].copy_from_slice(value);
+        Written { octets, length }
     }
 
     /// Channel header and BFD packet, all flags clear.
-    fn write_bfd(&self, octets: &mut [u8; 44], channel: u16, now: u64) {
+    fn write_bfd(&self, octets: &mut [u8; LONGEST_CV], channel: u16, now: u64) {
         let period = self.settings.period.to_be_bytes();
         let remote = self.remote_discriminator.unwrap_or(0);
         octets[0] = 0x10;
@@ -378,10 +386,7 @@ mod tests {
 
     /// A session in UP, as no calls leave it where it is held down.
     fn session_up() -> Session {
-        let mep_id = MepId {
-            kind: 0,
-            value: [0; 12],
-        };
+        let mep_id = MepId::new(0, &[0; 12]);
         let settings = Settings {
             label: 100,
             discriminator: 17,

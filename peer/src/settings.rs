@@ -1,7 +1,7 @@
 //! The settings that open a session.
 
-use crate::message::MepId;
-use crate::octets::{array, be16, be32};
+use crate::mep_id::MepId;
+use crate::octets::{be16, be32};
 
 pub const LOWEST_LABEL: u32 = 16;
 pub const HIGHEST_LABEL: u32 = 1_048_575;
@@ -24,16 +24,14 @@ pub struct Settings {
 
 impl Settings {
     /// Reads the body of an open record; nothing if its length, its marks or
-    /// a setting is out of range.
+    /// a setting is out of range. It has one type and twelve octets for each
+    /// MEP-ID, so that a pseudowire never fits.
     pub fn read(label: u32, body: &[u8]) -> Option<Settings> {
         if body.len() != OPEN_BODY || body[34] > 3 {
             return None;
         }
         let kind = be16(body, 8);
-        let mep_id = |at| MepId {
-            kind,
-            value: array(body, at),
-        };
+        let mep_id = |at| MepId::new(kind, &body[at..at + 12]);
         let settings = Settings {
             label,
             discriminator: be32(body, 0),
@@ -51,7 +49,7 @@ impl Settings {
         (LOWEST_LABEL..=HIGHEST_LABEL).contains(&self.label)
             && self.discriminator != 0
             && (SHORTEST_PERIOD..=LONGEST_PERIOD).contains(&self.period)
-            && self.own.kind <= 1
-            && self.expected.kind <= 1
+            && self.own.is_well_formed()
+            && self.expected.is_well_formed()
     }
 }

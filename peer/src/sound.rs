@@ -59,17 +59,15 @@ fn conditions_are_sound(session: &Session, clock: u64) -> bool {
 #[cfg(test)]
 mod tests {
     use super::*;
-    use crate::message::{FaultKind, MepId, Origin};
+    use crate::mep_id::MepId;
+    use crate::message::{FaultKind, Origin};
     use crate::session::Key;
     use crate::settings::Settings;
 
     const CLOCK: u64 = 1_000;
 
     fn session(number: u32) -> Session {
-        let mep_id = MepId {
-            kind: 0,
-            value: [0; 12],
-        };
+        let mep_id = MepId::new(0, &[0; 12]);
         let settings = Settings {
             label: 100 + number,
             discriminator: 1 + number,
@@ -122,12 +120,25 @@ mod tests {
         assert!(!verdict(|s| s.settings.discriminator = 0));
         assert!(!verdict(|s| s.settings.period = 999));
         assert!(!verdict(|s| s.settings.period = 10_000_001));
-        assert!(!verdict(|s| s.settings.own.kind = 2));
+        assert!(!verdict(|s| s.settings.own = MepId::new(3, &[0; 14])));
+        assert!(!verdict(|s| s.settings.expected = MepId::new(2, &[0; 12])));
+        assert!(!verdict(|s| s.settings.own = MepId::new(2, &[1; 14])));
         assert!(!verdict(|s| s.multiplier = 0));
         assert!(!verdict(|s| s.remote_diagnostic = Some(32)));
         assert!(!verdict(|s| s.remote_discriminator = Some(0)));
         assert!(!verdict(|s| s.state = State::Up));
         assert!(!verdict(|s| s.state = State::Init));
+    }
+
+    #[test]
+    fn pseudowires_of_every_length_are_sound() {
+        for agi in 0..=32 {
+            let mut value = vec![7; 14 + agi];
+            value[13] = agi as u8;
+            let mep_id = MepId::new(2, &value);
+            assert!(verdict(|s| s.settings.own = mep_id));
+            assert!(verdict(|s| s.settings.expected = mep_id));
+        }
     }
 
     #[test]

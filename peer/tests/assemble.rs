@@ -65,6 +65,23 @@ fn a_cv_in_words() {
 }
 
 #[test]
+fn a_cv_of_a_pseudowire_in_words() {
+    let line = "0 100 receive cv down my=5 your=17 transmit=0 receive=0 \
+                mep=0x02020202/0x02020202/0x02020202 agi-type=9 agi=aabbcc";
+    assert_eq!(
+        body(line),
+        pseudowire_cv(DOWN, 17, EXPECTED, 9, &[0xaa, 0xbb, 0xcc])
+    );
+    let none = body("0 100 receive cv down my=5 mep=1/2/3 agi=");
+    assert_eq!(none[28..32], [0, 2, 0, 14]);
+    assert_eq!(none[40..], [0, 0, 0, 3, 0, 0]);
+    let wrong =
+        body("0 100 receive cv down my=5 mep=1/2/3 agi=00 agi-length=7 mep-type=3 mep-length=9");
+    assert_eq!(wrong[28..32], [0, 3, 0, 9]);
+    assert_eq!(wrong[44..], [0, 7, 0]);
+}
+
+#[test]
 fn fault_messages_in_words() {
     assert_eq!(
         body("0 100 receive ais L refresh=2 if=1/7"),
@@ -110,6 +127,10 @@ fn mistakes_are_named_with_their_line() {
         ),
         ("0 100 receive cc my=5", "no state"),
         ("0 100 receive bfd", "no message: bfd"),
+        (
+            "0 100 receive cv down my=5 mep=1/2/3/4 agi=",
+            "a pseudowire is Global_ID/Node/AC_ID",
+        ),
         ("0 100 receive ais if=1", "an IF_ID is node/interface"),
         ("0 100 receive hex 123", "not octets in hexadecimal: 123"),
     ] {

@@ -59,7 +59,8 @@ fn padding_counts_where_a_message_is_too_short() {
     assert_eq!(answer(&padded(long.clone(), 15)), "3 43");
     assert_eq!(answer(&padded(long, 16)), "0");
     let long = set(&cv(DOWN, DISCRIMINATOR, EXPECTED), [(7, 40)]);
-    assert_eq!(answer(&padded(long, 15)), "3 59");
+    assert_eq!(answer(&padded(long.clone(), 3)), "3 47");
+    assert_eq!(answer(&padded(long, 4)), "7 44");
     let long = set(&fault(AIS, 0, 1, &[]), [(8, 20)]);
     assert_eq!(answer(&padded(long, 19)), "3 28");
 }
@@ -142,7 +143,13 @@ fn a_cv_names_the_fields_of_its_mep_id() {
     assert_eq!(answer(&set(&longer, [(35, 3)])), "7 34");
     assert_eq!(answer(&set(&longer, [(37, 13)])), "7 36");
     assert_eq!(answer(&set(&longer, [(35, 3), (37, 13)])), "7 34");
-    assert_eq!(answer(&set(&good, [(29, 3)])[..43]), "3 43");
+    // They are judged when they are there, before the value is.
+    for length in 32..44 {
+        assert_eq!(answer(&set(&good, [(29, 3)])[..length]), "7 28");
+        assert_eq!(answer(&set(&good, [(31, 13)])[..length]), "7 30");
+        assert_eq!(answer(&set(&good, [(29, 2)])[..length]), "7 30");
+    }
+    assert_eq!(answer(&set(&good, [(29, 3)])[..31]), "3 31");
 }
 
 #[test]

@@ -55,7 +55,7 @@ fn connectivity_verification() {
     let good = cv(UP, DISCRIMINATOR, EXPECTED);
     assert_eq!(answer(&good), "0");
     assert_eq!(answer(&good[..43]), "3");
-    assert_eq!(answer(&changed(good.clone(), 29, 2)[..43]), "3");
+    assert_eq!(answer(&changed(good.clone(), 29, 2)[..43]), "7");
     assert_eq!(answer(&changed(good.clone(), 29, 2)), "7");
     assert_eq!(answer(&changed(good.clone(), 28, 1)), "7");
     assert_eq!(answer(&changed(good.clone(), 31, 13)), "7");
@@ -64,7 +64,8 @@ fn connectivity_verification() {
     let mut longer = changed(good.clone(), 7, 26);
     longer.splice(28..28, [9, 9]);
     assert_eq!(answer(&longer), "0");
-    assert_eq!(answer(&changed(good, 7, 26)), "3");
+    // Two octets of it are read as its type and length: 0x000c, 0x0202.
+    assert_eq!(answer(&changed(good, 7, 26)), "7");
 }
 
 #[test]

@@ -2,7 +2,8 @@
 
 use super::words::{number, octets, Mistake, Words};
 use crate::capture::open_body;
-use crate::message::{MepId, CHANNEL_CC, CHANNEL_CV, CHANNEL_FAULT};
+use crate::mep_id::{LSP, PSEUDOWIRE, SECTION};
+use crate::message::{CHANNEL_CC, CHANNEL_CV, CHANNEL_FAULT};
 
 /// The period of a session, and the intervals of a CC, where none is named.
 const USUAL_PERIOD: u32 = 1_000_000;
@@ -11,40 +12,40 @@ const USUAL_EXPECTED: &str = "1/20/1/1";
 
 /// The body of an open: its settings.
 pub fn settings(words: &mut Words) -> Result<Vec<u8>, Mistake> {
-    let own = mep_id(words.value("own").unwrap_or(USUAL_OWN))?;
-    let expected = mep_id(words.value("expected").unwrap_or(USUAL_EXPECTED))?;
-    if own.kind != expected.kind {
+    let (kind, own) = mep_id(words.value("own").unwrap_or(USUAL_OWN))?;
+    let (expected_kind, expected) = mep_id(words.value("expected").unwrap_or(USUAL_EXPECTED))?;
+    if kind != expected_kind {
         return Err("own and expected MEP-ID are of two types".to_string());
     }
     let marks = u8::from(words.has("follow-link-down")) + 2 * u8::from(words.has("follow-lock"));
     Ok(open_body(
         words.number("my", 0)?,
         words.number("period", USUAL_PERIOD)?,
-        words.number("type", own.kind)?,
-        own.value,
-        expected.value,
+        words.number("type", kind)?,
+        own,
+        expected,
         words.number("marks", marks)?,
     ))
 }
 
-/// A MEP-ID by its numbers: Global_ID/Node/Interface of a Section, or
-/// Global_ID/Node/Tunnel/LSP.
-fn mep_id(word: &str) -> Result<MepId, Mistake> {
+/// The type and the first twelve octets of a MEP-ID by its numbers:
+/// Global_ID/Node/Interface of a Section, or Global_ID/Node/Tunnel/LSP.
+fn mep_id(word: &str) -> Result<(u16, [u8; 12]), Mistake> {
     let mistake = || format!("not a MEP-ID: {word}");
     let parts = word
         .split('/')
         .map(number)
         .collect::<Result<Vec<u32>, _>>()?;
     let (kind, last) = match parts[..] {
-        [_, _, interface] => (0, interface),
-        [_, _, tunnel, lsp] if tunnel < 1 << 16 && lsp < 1 << 16 => (1, tunnel << 16 | lsp),
+        [_, _, interface] => (SECTION, interface),
+        [_, _, tunnel, lsp] if tunnel < 1 << 16 && lsp < 1 << 16 => (LSP, tunnel << 16 | lsp),
         _ => return Err(mistake()),
     };
     let mut value = [0; 12];
     value[..4].copy_from_slice(&parts[0].to_be_bytes());
     value[4..8].copy_from_slice(&parts[1].to_be_bytes());
     value[8..].copy_from_slice(&last.to_be_bytes());
-    Ok(MepId { kind, value })
+    Ok((kind, value))
 }
 
 /// The body of a receive: a message by its name; nothing where none is named.
@@ -105,11 +106,30 @@ fn state_and_flags(words: &mut Words) -> Result<u8, Mistake> {
 /// A CV: what a CC has, and the MEP-ID of its sender.
 fn cv(words: &mut Words) -> Result<Vec<u8>, Mistake> {
     let mut message = bfd(words, CHANNEL_CV)?;
-    let source = mep_id(words.value("mep").unwrap_or(USUAL_EXPECTED))?;
-    message.extend(words.number("mep-type", source.kind)?.to_be_bytes());
-    message.extend(words.number("mep-length", 12_u16)?.to_be_bytes());
-    message.extend(source.value);
+    let (kind, value) = source(words)?;
+    let length = value.len() as u16;
+    message.extend(words.number("mep-type", kind)?.to_be_bytes());
+    message.extend(words.number("mep-length", length)?.to_be_bytes());
+    message.extend(value);
     Ok(message)
+}
+
+/// The MEP-ID of a CV. With an AGI, of any number of octets, the numbers are
+/// Global_ID/Node/AC_ID of a pseudowire.
+fn source(words: &mut Words) -> Result<(u16, Vec<u8>), Mistake> {
+    let (kind, numbers) = mep_id(words.value("mep").unwrap_or(USUAL_EXPECTED))?;
+    let mut value = numbers.to_vec();
+    let Some(agi) = words.value("agi") else {
+        return Ok((kind, value));
+    };
+    if kind != SECTION {
+        return Err("a pseudowire is Global_ID/Node/AC_ID".to_string());
+    }
+    let agi = octets(agi)?;
+    value.push(words.number("agi-type", 0)?);
+    value.push(words.number("agi-length", agi.len() as u8)?);
+    value.extend(agi);
+    Ok((PSEUDOWIRE, value))
 }
 
 /// A fault message.

@@ -3,6 +3,7 @@
 
 use super::draft::{interface_tlv, FaultDraft};
 use super::{Circuit, Maker};
+use crate::mep_id::PSEUDOWIRE;
 use crate::message::{CHANNEL_CC, CHANNEL_CV, CHANNEL_FAULT};
 use crate::octets::be16;
 
@@ -69,6 +70,11 @@ pub(super) fn fields(message: &[u8]) -> Vec<Field> {
             fields.push(field(mep_id, 2, 0xffff));
             fields.push(field(mep_id + 2, 2, 0xffff));
             fields.extend((1..4).map(|n| field(mep_id + 4 * n, 4, WORD)));
+            if message.get(mep_id..mep_id + 2) == Some(&PSEUDOWIRE.to_be_bytes()) {
+                // AGI type, AGI length and the last octet of the AGI.
+                let ends = [mep_id + 16, mep_id + 17, message.len() - 1];
+                fields.extend(ends.map(|at| field(at, 1, 0xff)));
+            }
         }
         CHANNEL_FAULT => {
             fields.extend(FAULT_FIELDS);
@@ -91,10 +97,11 @@ pub(super) fn values(field: Field, old: u32) -> Vec<u32> {
         old.wrapping_sub(step),
     ];
     if field.width == 2 {
-        values.extend([0x0021, 0x0024, 0x0057, 0x0059, 0x0007, 0x2200, 2, 256]);
+        values.extend([0x0021, 0x0024, 0x0057, 0x0059, 0x0007, 0x2200, 256]);
+        values.extend([2, 3, 12, 13, 14, 46, 47]);
     }
     if field.mask == 0xff {
-        values.extend([20, 21, 23, 24, 25, 40, 128]);
+        values.extend([20, 21, 23, 24, 25, 31, 32, 33, 40, 128]);
     }
     for value in &mut values {
         *value &= field.mask;
@@ -120,7 +127,7 @@ pub(super) fn set(message: &mut [u8], field: Field, value: u32) {
 type Wrong = fn(&mut Vec<u8>);
 
 /// Ways to make a BFD message of Length 24 wrong; those that shorten it last.
-const BFD_WRONGS: [Wrong; 16] = [
+const BFD_WRONGS: [Wrong; 18] = [
     |m| m[0] = 0x11,
     |m| m[3] = 0x24,
     |m| m[4] ^= 0x40,
@@ -136,7 +143,9 @@ const BFD_WRONGS: [Wrong; 16] = [
     },
     |m| m[12] ^= 0x10,
     |m| m.last_chunk_mut::<15>().unwrap_or(&mut [0; 15])[0] = 2,
+    |m| m.last_chunk_mut::<15>().unwrap_or(&mut [0; 15])[0] = 3,
     |m| m.last_chunk_mut::<13>().unwrap_or(&mut [0; 13])[0] = 11,
+    |m| m.last_chunk_mut::<13>().unwrap_or(&mut [0; 13])[0] = 14,
     |m| m.truncate(m.len() - 1),
     |m| m.truncate(30),
     |m| m.truncate(27),
@@ -192,13 +201,17 @@ impl Maker {
 
     /// A message of any channel that would be accepted.
     pub(super) fn good_message(&mut self, circuit: &Circuit) -> Vec<u8> {
-        match self.random.below(3) {
-            0 => {
+        match self.random.below(8) {
+            0..3 => {
                 let draft = self.good_cc(circuit);
                 self.bfd_octets(&draft)
             }
-            1 => {
+            3 | 4 => {
                 let draft = self.good_cv(circuit);
+                self.bfd_octets(&draft)
+            }
+            5 => {
+                let draft = self.pseudowire_cv(circuit);
                 self.bfd_octets(&draft)
             }
             _ => {
@@ -221,6 +234,56 @@ impl Maker {
         if self.random.chance(25) {
             let length = self.random.between(0, message.len() as u64);
             message.truncate(length as usize);
+        }
+        message
+    }
+
+    /// The CV of a pseudowire, whole or wrong at its own places: another type,
+    /// a length beside those allowed, an AGI length at odds, and cut beside
+    /// each place at which the next thing is judged.
+    pub(super) fn pseudowire(&mut self, circuit: &Circuit) -> Vec<u8> {
+        let draft = self.pseudowire_cv(circuit);
+        let mut message = self.bfd_octets(&draft);
+        let at = 4 + usize::from(message[7]);
+        let length = message.len() - at - 4;
+        if self.random.chance(30) {
+            let kinds = [[0, 0], [0, 1], [0, 3], [2, 0], [255, 255]];
+            message[at..at + 2].copy_from_slice(&self.random.pick(&kinds));
+        }
+        if self.random.chance(30) {
+            let lengths = [
+                0,
+                12,
+                13,
+                14,
+                45,
+                46,
+                47,
+                256 + length,
+                length + 1,
+                length - 1,
+            ];
+            let length = self.random.pick(&lengths) as u16;
+            message[at + 2..at + 4].copy_from_slice(&length.to_be_bytes());
+        }
+        if self.random.chance(30) {
+            let agi = message[at + 17];
+            let lengths = [0, 32, 33, 255, agi.wrapping_add(1), agi.wrapping_sub(1)];
+            message[at + 17] = self.random.pick(&lengths);
+        }
+        if self.random.chance(40) {
+            let whole = message.len();
+            let ends = [
+                at,
+                at + 3,
+                at + 4,
+                at + 5,
+                at + 16,
+                at + 17,
+                at + 18,
+                whole - 1,
+            ];
+            message.truncate(self.random.pick(&ends));
         }
         message
     }

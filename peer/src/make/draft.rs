@@ -1,6 +1,7 @@
 //! Messages as they are drafted for a capture, right or wrong.
 
 use super::{Circuit, Maker};
+use crate::mep_id::{MepId, PSEUDOWIRE};
 use crate::message::{Origin, State, CHANNEL_CC, CHANNEL_CV, CHANNEL_FAULT};
 
 /// A BFD packet with its channel header.
@@ -16,8 +17,8 @@ pub(super) struct BfdDraft {
     pub your: u32,
     /// Octets after the mandatory part that Length counts.
     pub extra: Vec<u8>,
-    /// Type and value of the MEP-ID of a CV.
-    pub mep_id: Option<(u16, [u8; 12])>,
+    /// The MEP-ID of a CV.
+    pub mep_id: Option<MepId>,
 }
 
 pub(super) const POLL: u8 = 0x20;
@@ -34,10 +35,8 @@ impl BfdDraft {
             octets.extend_from_slice(&word.to_be_bytes());
         }
         octets.extend_from_slice(&self.extra);
-        if let Some((kind, value)) = self.mep_id {
-            octets.extend_from_slice(&kind.to_be_bytes());
-            octets.extend_from_slice(&12u16.to_be_bytes());
-            octets.extend_from_slice(&value);
+        if let Some(mep_id) = self.mep_id {
+            octets.extend_from_slice(&mep_id.part());
         }
         octets
     }
@@ -126,18 +125,31 @@ impl Maker {
     pub(super) fn good_cv(&mut self, circuit: &Circuit) -> BfdDraft {
         let expected = match self.session(circuit) {
             Some(session) => session.settings.expected,
-            None => crate::message::MepId {
-                kind: circuit.mep_kind,
-                value: circuit.expected,
-            },
+            None => MepId::new(circuit.mep_kind, &circuit.expected),
         };
         let mut draft = self.good_cc(circuit);
         draft.channel = CHANNEL_CV;
         draft.state = self.random.below(4) as u8;
-        draft.mep_id = Some((expected.kind, expected.value));
+        draft.mep_id = Some(expected);
         if self.random.chance(30) {
             draft.your = 0;
         }
+        draft
+    }
+
+    /// A CV of a pseudowire: well-formed, and so of another circuit. Its numbers
+    /// are at times the expected ones.
+    pub(super) fn pseudowire_cv(&mut self, circuit: &Circuit) -> BfdDraft {
+        let mut draft = self.good_cv(circuit);
+        let mut value = match self.random.chance(60) {
+            true => circuit.expected.to_vec(),
+            false => self.random.octets(12),
+        };
+        let any = self.random.between(0, 32) as u8;
+        let length = self.random.pick(&[0, 0, 1, 8, 31, 32, 32, any]);
+        value.extend([self.random.pick(&[0, 0, 1, 255]), length]);
+        value.extend(self.random.octets(usize::from(length)));
+        draft.mep_id = Some(MepId::new(PSEUDOWIRE, &value));
         draft
     }
 

@@ -8,11 +8,12 @@ use super::draft::{
 use super::{Circuit, Maker, Style};
 use crate::capture::{open_body, Kind};
 use crate::edges;
+use crate::mep_id::MepId;
 use crate::settings::OPEN_BODY;
 
 /// The scenarios, each with its weight in the styles Mixed, Steady, Faults,
 /// Damage and Edges.
-const SCENARIOS: [(Scenario, [u64; 5]); 28] = [
+const SCENARIOS: [(Scenario, [u64; 5]); 29] = [
     (Maker::tick, [8, 3, 4, 3, 10]),
     (Maker::open_well, [8, 2, 4, 4, 6]),
     (Maker::open_oddly, [10, 4, 4, 6, 6]),
@@ -41,6 +42,7 @@ const SCENARIOS: [(Scenario, [u64; 5]); 28] = [
     (Maker::reopen, [2, 1, 2, 1, 2]),
     (Maker::send_two_wrongs, [4, 1, 2, 15, 1]),
     (Maker::hold_down, [4, 1, 4, 1, 6]),
+    (Maker::send_pseudowire, [4, 1, 1, 12, 2]),
 ];
 
 type Scenario = fn(&mut Maker);
@@ -173,7 +175,10 @@ impl Maker {
             2 => body[..4].copy_from_slice(&circuit.discriminator.to_be_bytes()),
             3 => label = circuit.label,
             4 => self.odd_period(&mut body),
-            5 => body[8..10].copy_from_slice(&self.random.pick(&[[0, 2], [1, 0], [255, 255]])),
+            5 => {
+                let kinds = [[0, 2], [0, 2], [0, 3], [1, 0], [2, 0], [255, 255]];
+                body[8..10].copy_from_slice(&self.random.pick(&kinds));
+            }
             6 => body[34] = self.random.pick(&[4, 5, 128, 255]),
             7 => self.odd_length(&mut body),
             _ => label = self.random.between(16, 1_048_575) as u32,
@@ -225,7 +230,7 @@ impl Maker {
     pub(super) fn misconnected(&mut self, circuit: &Circuit) -> BfdDraft {
         let other = self.pick_circuit();
         let mut draft = self.good_cv(circuit);
-        match self.random.below(6) {
+        match self.random.below(7) {
             0 => draft.your = circuit.discriminator ^ self.random.pick(&[1, 0x8000_0000]),
             1 => draft = self.good_cv(&other),
             2 | 3 => {
@@ -233,12 +238,15 @@ impl Maker {
                 let foreign = [other.discriminator, circuit.discriminator ^ 2];
                 draft.your = self.random.pick(&foreign);
             }
-            4 => draft.mep_id = draft.mep_id.map(|(kind, value)| (1 - kind, value)),
+            4 => draft.mep_id = draft.mep_id.map(|id| MepId::new(1 - id.kind(), id.value())),
+            5 => draft = self.pseudowire_cv(circuit),
             _ => {
                 let at = self.random.below(12) as usize;
-                if let Some((_, value)) = &mut draft.mep_id {
+                draft.mep_id = draft.mep_id.map(|id| {
+                    let mut value = id.value().to_vec();
                     value[at] ^= 1;
-                }
+                    MepId::new(id.kind(), &value)
+                });
             }
         }
         draft
@@ -296,13 +304,23 @@ impl Maker {
         }
     }
 
+    /// CVs of a pseudowire, right and wrong, some of them padded.
+    fn send_pseudowire(&mut self) {
+        let circuit = self.pick_circuit();
+        for _ in 0..self.random.between(1, 4) {
+            let time = self.reading(&circuit);
+            let message = self.pseudowire(&circuit);
+            self.receive(&circuit, time, message);
+        }
+    }
+
     /// Random octets, at times behind a good channel header.
     fn send_random_octets(&mut self) {
         let circuit = self.pick_circuit();
         let time = self.reading(&circuit);
         let length = self
             .random
-            .pick(&[0, 3, 4, 8, 9, 27, 28, 43, 44, 60, 2_048]);
+            .pick(&[0, 3, 4, 8, 9, 27, 28, 32, 43, 44, 46, 60, 78, 2_048]);
         let mut message = self.random.octets(length);
         if self.random.chance(70) && length >= 4 {
             let channel = self.random.pick(&[0x22, 0x23, 0x58]);
@@ -328,7 +346,7 @@ impl Maker {
     fn cut_at_every_length(&mut self) {
         let circuit = self.pick_circuit();
         let message = self.good_message(&circuit);
-        for length in 0..=message.len().min(70) {
+        for length in 0..=message.len().min(80) {
             let time = self.table.clock();
             self.call(Kind::Receive, time, circuit.label, &message[..length]);
         }

@@ -117,6 +117,18 @@ pub fn cv(state: u8, your: u32, mep_id: [u8; 12]) -> Vec<u8> {
     message
 }
 
+/// A CV with the MEP-ID of a pseudowire: Global_ID, Node and AC_ID, AGI type
+/// and AGI.
+pub fn pseudowire_cv(state: u8, your: u32, numbers: [u8; 12], agi_kind: u8, agi: &[u8]) -> Vec<u8> {
+    let mut message = cc(state, your);
+    message[3] = 0x23;
+    message.extend([0, 2, 0, 14 + agi.len() as u8]);
+    message.extend(numbers);
+    message.extend([agi_kind, agi.len() as u8]);
+    message.extend(agi);
+    message
+}
+
 /// A fault message with the given TLV octets.
 pub fn fault(kind: u8, flags: u8, refresh: u8, tlvs: &[u8]) -> Vec<u8> {
     let mut message = vec![0x10, 0, 0, 0x58, 0x10, kind, flags, refresh];
