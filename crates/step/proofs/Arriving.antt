@@ -19,7 +19,7 @@ use Rattle.session.proofs.Live.{bfd-acts, fault-acts}
 use Rattle.table.specs.Places.{opens, placeOf}
 use Rattle.table.specs.Table.{inOrder, find, absent, asked, actAnswer, receiveAnswer, done, actDone, altered, receiving}
 use Rattle.step.specs.declared.Arrival.{Arrival}
-use Rattle.step.specs.AtPlace.{atPlace}
+use Rattle.walks.specs.AtPlace.{atPlace}
 use Rattle.step.specs.Saying.{Steps}
 use Rattle.step.specs.Stepping.{tableOf, at, nowhere, Obeyed}
 use Rattle.step.specs.Arriving.{messageIn, metAt, unmetOf, receivedOf, receiveAt}

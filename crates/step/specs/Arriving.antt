@@ -13,7 +13,7 @@ use Rattle.session.specs.Live.{isFault, bfdActed, faultActed, withLive, withFau
 use Rattle.table.specs.Table.{absent}
 use Rattle.step.specs.declared.Arrival.{Arrival}
 use Rattle.step.specs.declared.Outcome.{Outcome}
-use Rattle.step.specs.AtPlace.{atPlace}
+use Rattle.walks.specs.AtPlace.{atPlace}
 use Rattle.step.specs.Stepping.{at, nowhere, nothingTold, Obeyed}
 
 -- the message lies behind a place of the octets that are lent

@@ -1,4 +1,3 @@
-pub mod AtPlace
 pub mod Requests
 pub mod Stepping
 pub mod Saying

@@ -25,7 +25,7 @@ use Rattle.step.specs.declared.Opening.{Opening}
 use Rattle.step.specs.declared.Told.{Told}
 use Rattle.step.specs.declared.Outcome.{Outcome}
 use Rattle.step.specs.declared.Stepped.{Stepped}
-use Rattle.step.specs.AtPlace.{Afterwards}
+use Rattle.walks.specs.AtPlace.{Afterwards}
 
 -- a lent row with its head, as the table
 abbrev pub tableOf : List Session → Head → Table

@@ -18,9 +18,9 @@ use Rattle.session.specs.declared.Session.{Session}
 use Rattle.scan.specs.declared.Progress.{Progress}
 use Rattle.scan.specs.Passing.{takenIn, noted, Pass, taken, passOver}
 use Rattle.row.proofs.RecordOfRow.{copied}
-use Rattle.row.proofs.Branches.{held-is, failed-is, both-held, either-failed}
+use Rattle.walks.proofs.Branches.{held-is, failed-is, both-held, either-failed}
 use Rattle.row.proofs.Plains.{progressP, sessionP}
-use Rattle.row.proofs.ScanOver as over
+use Rattle.walks.proofs.ScanOver as over
 use Rattle.scan.proofs.more.Symbol as mo-def
 use Rattle.scan.proofs.more.Symbol.{name as #scan·more}
 use Rattle.scan.proofs.more.Met as mo-thm

@@ -48,13 +48,13 @@ use Rattle.scan.specs.declared.Summary.{Summary}
 use Rattle.scan.specs.Passing.{startOf, Pass, passOver, judgedOf, passOf, summaryOf}
 use Rattle.scan.proofs.Target.Laws as Target″
 use Rattle.scan.proofs.Progress.Laws as Progress″
-use Rattle.row.proofs.LentSlice.{slice, Shared, Mutable}
+use Rattle.walks.proofs.LentSlice.{slice, Shared, Mutable}
 use Rattle.row.proofs.RecordOfRow.{RowRecord}
-use Rattle.row.proofs.Callee.{callee-answers, token-back}
-use Rattle.row.proofs.Locals.{frees-stored}
-use Rattle.row.proofs.ByWalk.{meets-by-walk}
+use Rattle.walks.proofs.Callee.{callee-answers, token-back}
+use Rattle.walks.proofs.Locals.{frees-stored}
+use Rattle.walks.proofs.ByWalk.{meets-by-walk}
 use Rattle.row.proofs.Plains.{headP, targetP, progressP, summaryP, at-v}
-use Rattle.row.proofs.WordArray.{words-val, repeat-is, repeat-val, words-typed, lent-out, got-back, lent-shared-out, got-shared-back}
+use Rattle.walks.proofs.WordArray.{words-val, repeat-is, repeat-val, words-typed, lent-out, got-back, lent-shared-out, got-shared-back}
 use Rattle.scan.proofs.start as st
 use Rattle.scan.proofs.start.Symbol as st-def
 use Rattle.scan.proofs.start.Symbol.{name as #scan·start}

@@ -11,4 +11,4 @@ body-place-spec =
     tie.close
     (tie.spec (λ c. search tests) (λ c κs. search needs) (λ c κs. search needs) (λ c κs. search needs) (λ c κs. search needs)
     (λ c κs. search needs) (λ c κs. search needs)
-    (λ c. rw (le-ltb _ _ (c .before .before .before .before .before .before .if1 .left)) (cc)))
+    (λ c. rw (le-ltb _ _ (c .before .before .before .before .before .before .if1 .left), c .rule-place .ensures, c .before .get-u32 .ensures, c .before .before .get-u84 .ensures, c .before .before .before .get-u83 .ensures, c .before .before .before .before .get-u82 .ensures, c .before .before .before .before .before .get-u8 .ensures)))

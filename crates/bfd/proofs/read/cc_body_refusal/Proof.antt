@@ -15,7 +15,7 @@ returns-2 : tie.Need-returns-2
 unfolding ccBodyRefusal
 returns-2 c =
     let b = c .before .before .before .before .before .before in
-    cc (orElse-next _ _ (sym (b .before .body-refusal .ensures) ∙ b .if1 .left))
+    rw (orElse-next _ _ (sym (b .before .body-refusal .ensures) ∙ b .if1 .left), c .or-else .ensures, c .before .refuse-if .ensures, c .before .before .get-u82 .ensures, c .before .before .before .your-refusal .ensures, c .before .before .before .before .get-u32 .ensures, c .before .before .before .before .before .get-u8 .ensures)
 
 pub cc-body-refusal-spec : {M : Type 1} → statement M
 cc-body-refusal-spec =

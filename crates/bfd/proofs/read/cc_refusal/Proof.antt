@@ -9,4 +9,4 @@ unfolding ccRefusal controlRefusal ccBodyRefusal
 cc-refusal-spec =
     tie.close
     (tie.spec (λ c κs. search needs) (λ c κs. search needs) (λ c κs. search needs)
-    (λ c. rw (orElse-assoc) (cc)))
+    (λ c. rw (orElse-assoc, c .or-else .ensures, c .before .cc-body-refusal .ensures, c .before .before .channel-refusal .ensures)))

@@ -7,4 +7,4 @@ pub control-refusal-spec : {M : Type 1} → statement M
 unfolding controlRefusal
 control-refusal-spec =
     tie.close
-    (tie.spec (λ c κs. search needs) (λ c κs. search needs) (λ c κs. search needs) (λ c. cc))
+    (tie.spec (λ c κs. search needs) (λ c κs. search needs) (λ c κs. search needs) (λ c. rw (c .or-else .ensures, c .before .body-refusal .ensures, c .before .before .channel-refusal .ensures)))

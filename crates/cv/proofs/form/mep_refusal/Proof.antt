@@ -10,4 +10,4 @@ mep-refusal-spec =
     (tie.spec (λ c κs. search needs) (λ c. search needs) (λ c κs. search needs) (λ c. search needs)
     (λ c κs. search needs) (λ c κs. search needs) (λ c. search needs) (λ c. search needs) (λ c. search needs)
     (λ c κs. search needs) (λ c κs. search needs) (λ c κs. search needs) (λ c. search needs) (λ c κs. search needs)
-    (λ c. cc))
+    (λ c. rw (c .refuse-if2 .ensures, c .before .or-else .ensures, c .before .before .form-refusal .ensures, c .before .before .before .refuse-if .ensures, c .before .before .before .before .agi-refusal .ensures, c .before .before .before .before .before .get-u8 .ensures, c .before .before .before .before .before .before .get-u162 .ensures, c .before .before .before .before .before .before .before .get-u16 .ensures)))

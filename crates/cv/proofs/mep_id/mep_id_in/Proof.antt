@@ -6,4 +6,4 @@ pub mep-id-in-spec : {M : Type 1} → statement M
 mep-id-in-spec =
     tie.close
     (tie.spec (λ c. search needs) (λ c κs. search needs) (λ c. search needs) (λ c. search needs) (λ c κs. search needs) (λ c κs. search needs)
-    (λ c. cc))
+    (λ c. rw (c .mep-id-at .ensures, c .before .part .ensures, c .before .before .get-u16 .ensures)))

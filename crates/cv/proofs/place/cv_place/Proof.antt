@@ -7,4 +7,4 @@ pub cv-place-spec : {M : Type 1} → statement M
 unfolding cvPlace
 cv-place-spec =
     tie.close
-    (tie.spec (λ c κs. search needs) (λ c κs. search needs) (λ c κs. search needs) (λ c. cc))
+    (tie.spec (λ c κs. search needs) (λ c κs. search needs) (λ c κs. search needs) (λ c. rw (c .channel-place .ensures, c .before .body-place .ensures, c .before .before .source-place .ensures)))

@@ -10,4 +10,4 @@ unfolding cvRefusal controlRefusal cvBodyRefusal
 cv-refusal-spec =
     tie.close
     (tie.spec (λ c κs. search needs) (λ c κs. search needs) (λ c κs. search needs)
-    (λ c. rw (orElse-assoc) (cc)))
+    (λ c. rw (orElse-assoc, c .or-else .ensures, c .before .cv-body-refusal .ensures, c .before .before .channel-refusal .ensures)))

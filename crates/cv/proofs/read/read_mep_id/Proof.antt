@@ -7,4 +7,4 @@ pub read-mep-id-spec : {M : Type 1} → statement M
 unfolding readMep
 read-mep-id-spec =
     tie.close
-    (tie.spec (λ c κs. search needs) (λ c κs. search needs) (λ c κs. search needs) (λ c. cc))
+    (tie.spec (λ c κs. search needs) (λ c κs. search needs) (λ c κs. search needs) (λ c. rw (c .mep-answer .ensures, c .before .mep-id-in .ensures, c .before .before .mep-refusal .ensures)))

@@ -7,4 +7,4 @@ pub fault-place-spec : {M : Type 1} → statement M
 unfolding faultPlace
 fault-place-spec =
     tie.close
-    (tie.spec (λ c κs. search needs) (λ c κs. search needs) (λ c κs. search needs) (λ c. cc))
+    (tie.spec (λ c κs. search needs) (λ c κs. search needs) (λ c κs. search needs) (λ c. rw (c .place-with .ensures, c .before .read-tlvs .ensures, c .before .before .get-u8 .ensures)))

@@ -5,7 +5,7 @@ use Rattle.fault.proofs.place.front_place.Tie as tie
 
 returns : tie.Need-returns
 unfolding frontPlace
-returns c = cc
+returns c = rw (c .channel-place .ensures, c .before .cut-place2 .ensures, c .before .before .head-place .ensures, c .before .before .before .cut-place .ensures, c .before .before .before .before .get-u8 .ensures)
 
 pub front-place-spec : {M : Type 1} → statement M
 front-place-spec =

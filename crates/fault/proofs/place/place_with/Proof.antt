@@ -7,11 +7,11 @@ use Rattle.fault.proofs.place.place_with.Tie as tie
 
 returns : tie.Need-returns
 unfolding placeWith
-returns c = c .front-place .ensures ∙ rw (← c .before .get-u8 .ensures, c .before .before .if1 .taken) cc
+returns c = c .front-place .ensures ∙ rw (← c .before .get-u8 .ensures, c .before .before .if1 .taken)
 
 returns-2 : tie.Need-returns-2
 unfolding placeWith
-returns-2 c = c .front-place2 .ensures ∙ rw (ne-eqb _ _ (c .before .if1 .left)) cc
+returns-2 c = c .front-place2 .ensures ∙ rw (ne-eqb _ _ (c .before .if1 .left))
 
 pub place-with-spec : {M : Type 1} → statement M
 place-with-spec =

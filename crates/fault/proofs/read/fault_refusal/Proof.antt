@@ -7,4 +7,4 @@ pub fault-refusal-spec : {M : Type 1} → statement M
 unfolding faultRefusal
 fault-refusal-spec =
     tie.close
-    (tie.spec (λ c κs. search needs) (λ c κs. search needs) (λ c κs. search needs) (λ c. cc))
+    (tie.spec (λ c κs. search needs) (λ c κs. search needs) (λ c κs. search needs) (λ c. rw (c .refusal-with .ensures, c .before .read-tlvs .ensures, c .before .before .get-u8 .ensures)))

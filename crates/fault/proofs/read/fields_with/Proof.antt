@@ -8,4 +8,4 @@ unfolding fieldsWith
 fields-with-spec =
     tie.close
     (tie.spec (λ c κs. search needs) (λ c κs. search needs) (λ c κs. search needs) (λ c κs. search needs) (λ c κs. search needs)
-    (λ c. cc))
+    (λ c. rw (c .global-id .ensures, c .before .if-id .ensures, c .before .before .get-u83 .ensures, c .before .before .before .get-u82 .ensures, c .before .before .before .before .get-u8 .ensures)))

@@ -8,4 +8,4 @@ unfolding headRefusal
 head-refusal-spec =
     tie.close
     (tie.spec (λ c κs. search needs) (λ c κs. search needs) (λ c κs. search needs) (λ c κs. search needs) (λ c κs. search needs)
-    (λ c. cc))
+    (λ c. rw (c .need .ensures, c .before .get-u83 .ensures, c .before .before .range-refusal .ensures, c .before .before .before .get-u82 .ensures, c .before .before .before .before .get-u8 .ensures)))

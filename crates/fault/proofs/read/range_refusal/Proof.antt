@@ -7,4 +7,4 @@ pub range-refusal-spec : {M : Type 1} → statement M
 unfolding rangeRefusal
 range-refusal-spec =
     tie.close
-    (tie.spec (λ c κs. search needs) (λ c κs. search needs) (λ c κs. search needs) (λ c κs. search needs) (λ c. cc))
+    (tie.spec (λ c κs. search needs) (λ c κs. search needs) (λ c κs. search needs) (λ c κs. search needs) (λ c. rw (c .need4 .ensures, c .before .need3 .ensures, c .before .before .need2 .ensures, c .before .before .before .need .ensures)))

@@ -12,8 +12,7 @@ returns c =
     let t : c .before .before .before .read-tlvs .result ≡ tlvsIn m = c .before .before .before .read-tlvs .ensures ∙ rw (c .before .before .before .before .get-u8 .ensures) in
     let n : c .before .refusal-with .result ≡ faultRefusal m = c .before .refusal-with .ensures ∙ rw t in
     let p : c .before .before .place-with .result ≡ faultPlace m = c .before .before .place-with .ensures ∙ rw t in
-    let e = refused-with m _ n (c .if1 .taken) in
-    cc
+    rw (p, ← refused-with m _ n (c .if1 .taken))
 
 returns-2 : tie.Need-returns-2
 unfolding faultRefusal faultPlace faultOf
@@ -23,8 +22,7 @@ returns-2 c =
     let n : c .before .before .refusal-with .result ≡ faultRefusal m = c .before .before .refusal-with .ensures ∙ rw t in
     let p : c .before .before .before .place-with .result ≡ faultPlace m = c .before .before .before .place-with .ensures ∙ rw t in
     let f : c .fields-with .result ≡ faultOf m = c .fields-with .ensures ∙ rw t in
-    let e = read-whole m _ n (c .before .if1 .left) in
-    cc
+    rw (f, p, ← read-whole m _ n (c .before .if1 .left))
 
 pub read-fault-spec : {M : Type 1} → statement M
 read-fault-spec =

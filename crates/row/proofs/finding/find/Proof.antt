@@ -20,9 +20,9 @@ use Rattle.table.specs.Table.{absent}
 use Rattle.table.specs.Places.{firstOn, hits, firstHit}
 use Rattle.session.specs.declared.Session.{Session}
 use Rattle.row.proofs.RecordOfRow.{copied}
-use Rattle.row.proofs.Branches.{held-is, failed-is, both-held, either-failed}
+use Rattle.walks.proofs.Branches.{held-is, failed-is, both-held, either-failed}
 use Rattle.row.proofs.Plains.{u32P, sessionP}
-use Rattle.row.proofs.FindOver as over
+use Rattle.walks.proofs.FindOver as over
 use Rattle.row.proofs.finding.more_places.Symbol as mo-def
 use Rattle.row.proofs.finding.more_places.Symbol.{name as #row·more-places}
 use Rattle.row.proofs.finding.more_places.Met as mo-thm

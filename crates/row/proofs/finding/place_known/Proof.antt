@@ -15,9 +15,9 @@ use Rattle.session.specs.declared.Session.{Session}
 use Rattle.table.specs.Places.{occupiedAt, hasLabel, firstHit}
 use Rattle.table.specs.Table.{absent}
 use Rattle.table.specs.Hints.{holds, hintOf, hintKept, Placed, searched, placedBy}
-use Rattle.row.proofs.Branches.{held-is, failed-is}
+use Rattle.walks.proofs.Branches.{held-is, failed-is}
 use Rattle.row.proofs.Plains.{sessionP}
-use Rattle.row.proofs.HintFirst as first
+use Rattle.walks.proofs.HintFirst as first
 use Rattle.row.proofs.record_at.Symbol as ra-def
 use Rattle.row.proofs.record_at.Symbol.{name as #row·record-at}
 use Rattle.row.proofs.record_at.Met as ra-thm

@@ -17,10 +17,10 @@ use Rattle.scan.specs.declared.Summary.{Summary}
 use Rattle.step.specs.declared.Request.{Request}
 use Rattle.step.specs.declared.Stepped.{Stepped}
 use Rattle.step.specs.Stepping.{stepOf, effectOn, obeyAt}
-use Rattle.row.proofs.TypeParts.{name-of, fields-of, place-in}
+use Rattle.walks.proofs.TypeParts.{name-of, fields-of, place-in}
 use Rattle.row.proofs.Plains.{Plain, headP, summaryP, requestP, outcomeP, steppedP, sessionP}
 use Rattle.row.proofs.StepParts.{found-fits, outcome-is, place-fits, obeyed-as}
-use Rattle.row.proofs.ObeyAt as at
+use Rattle.walks.proofs.ObeyAt as at
 use Rattle.row.proofs.record_at.Symbol as ra-def
 use Rattle.row.proofs.record_at.Symbol.{name as #row·record-at}
 use Rattle.row.proofs.record_at.Met as ra-thm

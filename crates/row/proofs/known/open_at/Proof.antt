@@ -18,10 +18,10 @@ use Rattle.step.specs.declared.Opening.{Opening}
 use Rattle.step.specs.declared.Stepped.{Stepped}
 use Rattle.session.specs.Steps.{newSession}
 use Rattle.step.specs.Stepping.{openingOf, openAt}
-use Rattle.row.proofs.TypeParts.{name-of, fields-of, place-in}
+use Rattle.walks.proofs.TypeParts.{name-of, fields-of, place-in}
 use Rattle.row.proofs.Plains.{Plain, headP, summaryP, openingP, outcomeP, steppedP, sessionP}
 use Rattle.row.proofs.StepParts.{found-fits, outcome-is, place-fits, obeyed-as}
-use Rattle.row.proofs.ObeyAt as at
+use Rattle.walks.proofs.ObeyAt as at
 use Rattle.row.proofs.record_at.Symbol as ra-def
 use Rattle.row.proofs.record_at.Symbol.{name as #row·record-at}
 use Rattle.row.proofs.record_at.Met as ra-thm

@@ -9,7 +9,7 @@ use denote.Triple.Table.{entered, cited}
 use Rattle.session.specs.Live.{isFault}
 use Rattle.step.specs.Arriving.{messageIn, bfdAt, faultAt, receiveAt}
 use Rattle.row.proofs.Plains.{Plain, arrivalP, outcomeP, sessionP}
-use Rattle.row.proofs.EitherCall as either
+use Rattle.walks.proofs.EitherCall as either
 use Rattle.step.proofs.brings_fault.Symbol as k1-def
 use Rattle.step.proofs.brings_fault.Symbol.{name as #step·brings-fault}
 use Rattle.step.proofs.brings_fault.Met as k1-thm
