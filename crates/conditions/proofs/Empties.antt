@@ -2,13 +2,13 @@
 -- Assumes nothing.
 use Prim.Native.Nat.{ℕ}
 use mathlib.Core.Path.{_≡_, refl, _∙_}
-use mathlib.Core.Bool.{Bool, true, false, not, _&&_}
+use mathlib.Core.Bool.{Bool, true, false, not, _&&_, _||_}
 use lib.Dec.{eqb}
+use Rattle.rules.specs.Conditions.{followsWith}
 use Rattle.rules.proofs.Bools.{split, no-way}
 use Rattle.conditions.specs.declared.Condition.{Condition}
 use Rattle.conditions.specs.declared.Conditions.{Conditions}
-use Rattle.rules.specs.declared.Settings.{Settings}
-use Rattle.conditions.specs.Standing.{filled, placeStands, followedAt, anyFollowed}
+use Rattle.conditions.specs.Standing.{filled, fresh, placeStands, followedWith, anyFollowedWith, markedWith, anyMarkedWith}
 use Rattle.conditions.specs.Soundness.{placeSound, placesSound, clash, noClash, conditionsSound}
 
 -- nothing clashes with an empty place
@@ -50,16 +50,39 @@ none-filled cs clock e =
     split (eqb (cs .first .key .kind) 0) (λ f. first-alone cs clock (rw f at e) ∙ empty-sound (cs .first) clock f) (λ f. no-way e (rw f))
 
 -- where no place is filled, none is followed
-empty-unfollowed : (g : Settings) (c : Condition) (now : ℕ) → eqb (c .key .kind) 0 ≡ true → followedAt g c now ≡ false
-unfolding followedAt placeStands
-empty-unfollowed g c now e = rw e
+empty-unfollowed : (link lock : ℕ) (c : Condition) (now : ℕ) → eqb (c .key .kind) 0 ≡ true → followedWith link lock c now ≡ false
+unfolding followedWith placeStands
+empty-unfollowed link lock c now e = rw e
 
-pub none-followed : (g : Settings) (cs : Conditions) (now : ℕ)
+pub none-followed : (link lock : ℕ) (cs : Conditions) (now : ℕ)
     → (eqb (cs .first .key .kind) 0 && eqb (cs .second .key .kind) 0 && eqb (cs .third .key .kind) 0 && eqb (cs .fourth .key .kind) 0) ≡ true
-    → anyFollowed g cs now ≡ false
-unfolding anyFollowed
-none-followed g cs now e =
+    → anyFollowedWith link lock cs now ≡ false
+unfolding anyFollowedWith
+none-followed link lock cs now e =
     split (eqb (cs .first .key .kind) 0)
     (λ f. let p = three-apart (eqb (cs .second .key .kind) 0) (eqb (cs .third .key .kind) 0) (eqb (cs .fourth .key .kind) 0) (rw f at e) in
-    rw (empty-unfollowed g (cs .first) now f, empty-unfollowed g (cs .second) now (p .0), empty-unfollowed g (cs .third) now (p .1 .0), empty-unfollowed g (cs .fourth) now (p .1 .1)))
+    rw (empty-unfollowed link lock (cs .first) now f, empty-unfollowed link lock (cs .second) now (p .0), empty-unfollowed link lock (cs .third) now (p .1 .0), empty-unfollowed link lock (cs .fourth) now (p .1 .1)))
     (λ f. no-way e (rw f))
+
+-- where no place is filled with what is followed, none is followed
+unmarked-unfollowed : (link lock : ℕ) (c : Condition) (now : ℕ) → markedWith link lock c ≡ false → followedWith link lock c now ≡ false
+unfolding followedWith placeStands
+unmarked-unfollowed link lock c now e = dropped (filled c) (fresh c now) (followsWith link lock (c .key .kind) (eqb (c .linkdown) 1)) e
+  where
+    dropped : (a b d : Bool) → (a && d) ≡ false → (a && b && d) ≡ false
+    dropped true true d e = e
+    dropped true false d e = refl
+    dropped false b d e = refl
+
+none-of : (a b c d : Bool) → (a || b || c || d) ≡ false → (a ≡ false) × ((b ≡ false) × ((c ≡ false) × (d ≡ false)))
+none-of false false false false e = (refl, (refl, (refl, refl)))
+none-of false false false true e = no-way refl e
+none-of false false true d e = no-way refl e
+none-of false true c d e = no-way refl e
+none-of true b c d e = no-way refl e
+
+pub none-marked : (link lock : ℕ) (cs : Conditions) (now : ℕ) → anyMarkedWith link lock cs ≡ false → anyFollowedWith link lock cs now ≡ false
+unfolding anyFollowedWith anyMarkedWith
+none-marked link lock cs now e =
+    let p = none-of (markedWith link lock (cs .first)) (markedWith link lock (cs .second)) (markedWith link lock (cs .third)) (markedWith link lock (cs .fourth)) e in
+    rw (unmarked-unfollowed link lock (cs .first) now (p .0), unmarked-unfollowed link lock (cs .second) now (p .1 .0), unmarked-unfollowed link lock (cs .third) now (p .1 .1 .0), unmarked-unfollowed link lock (cs .fourth) now (p .1 .1 .1))

@@ -1,12 +1,12 @@
 -- Marks, and numbers that are there only where a mark is not 0.
 -- Assumes nothing.
-use Prim.Native.Nat.{ℕ, _+_, _/_, _<_}
+use Prim.Native.Nat.{ℕ, _<_}
 use mathlib.Core.Path.{_≡_, refl, sym, ap, _∙_}
 use mathlib.Core.Bool.{Bool, true, false, _&&_}
 use mathlib.Core.Logic.{_⊎_, inl, inr, ⊎-elim}
 use native.Mathlib.Omega.{arith}
-use lib.Dec.{eqb, ltb}
-use borrow.Author.Tests.{ltb-true, ltb-false, eqb-true, eqb-false, eq-eqb, ne-eqb}
+use lib.Dec.{eqb}
+use borrow.Author.Tests.{eqb-true, eqb-false, eq-eqb, ne-eqb}
 use Rattle.rules.proofs.Bools.{split}
 use Rattle.conditions.specs.Digests.{markedBy}
 
@@ -32,20 +32,6 @@ marked-says mark other m n e f =
 pub says-marked : (mark other m n : ℕ) → mark ≡ other → (mark ≡ 0) ⊎ (m ≡ n) → markedBy mark m ≡ markedBy other n
 says-marked mark other m n e =
     ⊎-elim (λ z. unmarked mark m z ∙ sym (unmarked other n (sym e ∙ z))) (λ z. ap (λ (k : ℕ). markedBy k m) e ∙ ap (markedBy other) z)
-
--- marks of 0 or 1, by the sum of their halves
-pub halves-fit : (a b c : ℕ) → eqb (a / 2 + b / 2 + c / 2) 0 ≡ (ltb a 2 && ltb b 2 && ltb c 2)
-halves-fit a b c =
-    let n = a / 2 + b / 2 + c / 2 in
-    split (ltb a 2)
-    (λ x. let p = ltb-true a 2 x in
-    split (ltb b 2)
-    (λ y. let q = ltb-true b 2 y in
-    split (ltb c 2)
-    (λ z. let r = ltb-true c 2 z in rw (x, y, z) (eq-eqb n 0 (omega arith)))
-    (λ z. let r = ltb-false c 2 z in rw (x, y, z) (ne-eqb n 0 (λ e. omega arith))))
-    (λ y. let q = ltb-false b 2 y in rw (x, y) (ne-eqb n 0 (λ e. omega arith))))
-    (λ x. let p = ltb-false a 2 x in rw x (ne-eqb n 0 (λ e. omega arith)))
 
 -- a test in two parts, and its first part as one
 pub parted : (k a b c x y z : Bool) → (k && a && b && c && x && y && z) ≡ (k && (a && b && c) && x && y && z)

@@ -6,7 +6,7 @@ use lib.Dec.{eqb}
 use Rattle.octets.specs.Choice.{bitOf}
 use Rattle.rules.specs.declared.Settings.{Settings}
 use Rattle.rules.specs.Times.{within, lifetime}
-use Rattle.rules.specs.Conditions.{follows}
+use Rattle.rules.specs.Conditions.{followsWith}
 use Rattle.conditions.specs.declared.Condition.{Condition}
 use Rattle.conditions.specs.declared.Conditions.{Conditions}
 
@@ -26,10 +26,25 @@ unfoldable pub countAt : Conditions → ℕ → ℕ
 countAt cs now =
     bitOf (placeStands (cs .first) now) + bitOf (placeStands (cs .second) now) + bitOf (placeStands (cs .third) now) + bitOf (placeStands (cs .fourth) now)
 
--- a condition that stands and that the session follows (for AIS, its latest message had L)
-unfoldable pub followedAt : Settings → Condition → ℕ → Bool
-followedAt s c now = placeStands c now && follows s (c .key .kind) (eqb (c .linkdown) 1)
+-- a condition that stands and that a session with these two marks follows (for AIS, its latest message had L)
+unfoldable pub followedWith : ℕ → ℕ → Condition → ℕ → Bool
+followedWith link lock c now = placeStands c now && followsWith link lock (c .key .kind) (eqb (c .linkdown) 1)
 
-unfoldable pub anyFollowed : Settings → Conditions → ℕ → Bool
-anyFollowed s cs now =
-    followedAt s (cs .first) now || followedAt s (cs .second) now || followedAt s (cs .third) now || followedAt s (cs .fourth) now
+unfoldable pub anyFollowedWith : ℕ → ℕ → Conditions → ℕ → Bool
+anyFollowedWith link lock cs now =
+    followedWith link lock (cs .first) now || followedWith link lock (cs .second) now || followedWith link lock (cs .third) now || followedWith link lock (cs .fourth) now
+
+-- by the settings of a session
+abbrev pub followedAt : Settings → Condition → ℕ → Bool
+followedAt s c now = followedWith (s .followlink) (s .followlock) c now
+
+abbrev pub anyFollowed : Settings → Conditions → ℕ → Bool
+anyFollowed s cs now = anyFollowedWith (s .followlink) (s .followlock) cs now
+
+-- the code's own first question: a place is filled with what is followed, whatever its date
+abbrev pub markedWith : ℕ → ℕ → Condition → Bool
+markedWith link lock c = filled c && followsWith link lock (c .key .kind) (eqb (c .linkdown) 1)
+
+unfoldable pub anyMarkedWith : ℕ → ℕ → Conditions → Bool
+anyMarkedWith link lock cs =
+    markedWith link lock (cs .first) || markedWith link lock (cs .second) || markedWith link lock (cs .third) || markedWith link lock (cs .fourth)

@@ -8,7 +8,9 @@ use rules::Key;
 pub use sound::conditions_sound;
 pub use sound::four_empty;
 pub use standing::any_followed;
+pub use standing::any_marked;
 pub use standing::count_at;
+pub use standing::does_stand;
 pub use taking::no_conditions;
 pub use taking::take_fault;
 

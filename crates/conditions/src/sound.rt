@@ -12,11 +12,17 @@ ghost use lib.Dec.{eqb, ltb, leb};
 ghost use Rattle.conditions.specs.Soundness.{fieldsSound, placeSound, conditionsSound};
 ghost use Rattle.conditions.specs.Digests.{blankOf, markedBy, tagWith, keyDigest, digestOf, alike};
 
-// Three marks, 0 or 1 each, by one comparison: 26 asks it of every filled place.
+// Three marks, 0 or 1 each. The compiler makes one comparison of the three.
 fn marks_sound(present: u8, carrier: u8, linkdown: u8) -> bool
     ensures { λ r. ⌜ r ≡ (ltb present 2 && ltb carrier 2 && ltb linkdown 2) ⌝ }
 {
-    (present / 2) as u16 + (carrier / 2) as u16 + (linkdown / 2) as u16 == 0
+    if 2 <= present {
+        return false;
+    }
+    if 2 <= carrier {
+        return false;
+    }
+    linkdown < 2
 }
 
 fn times_sound(refresh: u8, at: u64, clock: u64) -> bool

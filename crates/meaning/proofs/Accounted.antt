@@ -50,7 +50,8 @@ module _ (now : ℕ) (s : Story) where
       (λ e. let w = any-who (stands now s) (keysOf s) e in (w .0, w .2))
       (λ e. absurd (z (ap length (none-only (stands now s) (keysOf s) e))))
 
-  keys-standing : (key : Key) → any (sameKey key) (only (stands now s) (keysOf s)) ≡ stands now s key
+  -- a key stands exactly when it is like one of the keys that stand
+  pub keys-standing : (key : Key) → any (sameKey key) (only (stands now s) (keysOf s)) ≡ stands now s key
   keys-standing key =
       any-only sameKey keys-alike (stands now s) (λ a b e. stands-alike a b e now s) key (keysOf s)
       ∙ same-test (any (sameKey key) (keysOf s) && stands now s key) (stands now s key)

@@ -57,12 +57,12 @@ in-step-next h t S c =
     (λ e. rw e (sim-same (λ m. refl) S))
 
 -- an empty set has no open record
-opens-none : (row : List Session) → opens 0 row ≡ []
+pub opens-none : (row : List Session) → opens 0 row ≡ []
 unfolding opens
 opens-none [] = refl
 opens-none (r ∷ rs) = opens-none rs
 
-in-step-start : (row : List Session) → length row ≡ 64 → InStep start (emptied row)
+pub in-step-start : (row : List Session) → length row ≡ 64 → InStep start (emptied row)
 unfolding emptied clockOf story labels once any find
 in-step-start row e =
     let none′ = opens-none row in

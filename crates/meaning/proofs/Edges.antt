@@ -5,7 +5,7 @@ use Rattle.rules.specs.Times.{late, past, within}
 use Rattle.rules.specs.Settings.{settingsFit}
 use Rattle.rules.specs.Lists.{any, only, once}
 use Rattle.rules.specs.Received.{receivedAs}
-use Rattle.rules.specs.Conditions.{sameIfId, sameGlobalId, sameKey, follows}
+use Rattle.rules.specs.Conditions.{sameIfId, sameGlobalId, sameKey, followsWith}
 use Rattle.octets.specs.Writing.{writing}
 use Rattle.gach.specs.Header.{headerRefusal, channelRefusal}
 use Rattle.gach.specs.Kinds.{kindRefusal}
@@ -26,5 +26,5 @@ use Rattle.meaning.specs.Answers.{rival, openNumber, actSaid, saysOf, sa
 use Rattle.meaning.specs.Edges.{told-all, lastSaid, Hold, edges}
 
 pub edges-hold : Hold edges
-unfolding Hold edges lastSaid told-all says saysOf actSaid openNumber rival clockOf story labels late past within settingsFit any only once receivedAs sameIfId sameGlobalId sameKey follows writing headerRefusal channelRefusal kindRefusal packetOf ruleRefusal yourRefusal controlRefusal ccRefusal packetOctets valueLength lengthFits agiFits formRefusal agiRefusal mepRefusal mepFits headOctets agiOctets mepOctets sameMepId cvRefusal mepPart tlvsOf rangeRefusal headRefusal refusalWith faultRefusal fieldsWith faultOf faultOctets messageRefusal messageOf settingsOf locked crossing timedFrom multiplierOf loss state stateAt remoteDiagnostic remoteOf owed stands followedLast keysOf conditions followed held report diagnostic packet ccWritten cvWritten
+unfolding Hold edges lastSaid told-all says saysOf actSaid openNumber rival clockOf story labels late past within settingsFit any only once receivedAs sameIfId sameGlobalId sameKey followsWith writing headerRefusal channelRefusal kindRefusal packetOf ruleRefusal yourRefusal controlRefusal ccRefusal packetOctets valueLength lengthFits agiFits formRefusal agiRefusal mepRefusal mepFits headOctets agiOctets mepOctets sameMepId cvRefusal mepPart tlvsOf rangeRefusal headRefusal refusalWith faultRefusal fieldsWith faultOf faultOctets messageRefusal messageOf settingsOf locked crossing timedFrom multiplierOf loss state stateAt remoteDiagnostic remoteOf owed stands followedLast keysOf conditions followed held report diagnostic packet ccWritten cvWritten
 edges-hold = (refl, (refl, (refl, (refl, (refl, (refl, (refl, (refl, (refl, (refl, (refl, (refl, (refl, (refl, (refl, tt)))))))))))))))

@@ -27,7 +27,7 @@ use Rattle.rules.proofs.Lists.{any-at, any-who, any-same, swap-same, once-cons,
 use Rattle.rules.proofs.SameKeys.{keys-alike, same-sym, same-refl, same-trans}
 use Rattle.conditions.specs.declared.Condition.{Condition}
 use Rattle.conditions.specs.declared.Conditions.{Conditions}
-use Rattle.conditions.specs.Standing.{filled, fresh, placeStands, countAt, followedAt, anyFollowed}
+use Rattle.conditions.specs.Standing.{filled, fresh, placeStands, countAt, followedWith, anyFollowedWith, followedAt, anyFollowed}
 use Rattle.conditions.specs.Taking.{empty, noConditions, without, forgotten, freePlace, placed, conditionOf, faultAnswer, takenIn}
 use Rattle.conditions.proofs.Fading.{stands-before}
 use Rattle.meaning.specs.Stories.{Story, opened, lock, unlock, got, wroteCc, settingsOf, wasTo}
@@ -172,7 +172,7 @@ module _ (a b : Key) (same : sameKey a b ≡ true) where
 -- Lists of places
 
 -- the keys of the places that pass a test
-any-keys : (p : Condition → Bool) (k : Key) (cs : List Condition) → any (sameKey k) (keysIn p cs) ≡ any (ofKey p k) cs
+pub any-keys : (p : Condition → Bool) (k : Key) (cs : List Condition) → any (sameKey k) (keysIn p cs) ≡ any (ofKey p k) cs
 unfolding keysIn any
 any-keys p k [] = refl
 any-keys p k (c ∷ cs) =
@@ -433,7 +433,7 @@ count-keys cs t =
 
 -- a place that is followed, over the list
 any-followed : (g : Settings) (cs : Conditions) (t : ℕ) → anyFollowed g cs t ≡ any (λ c. followedAt g c t) (places cs)
-unfolding any anyFollowed
+unfolding any anyFollowedWith
 any-followed g cs t = or-four (followedAt g (cs .first) t) (followedAt g (cs .second) t) (followedAt g (cs .third) t) (followedAt g (cs .fourth) t)
 
 -- The steps of a story
@@ -677,7 +677,7 @@ module _ {now : ℕ} {cs : Conditions} {s : Story} (t : ℕ) (h : now ≤ t) (K 
 
   -- a standing place is followed if the story says so of its key
   pub kept-followed : anyFollowed (settingsOf s) cs t ≡ followed t s
-  unfolding followedAt followed
+  unfolding followedWith followed
   kept-followed = any-followed (settingsOf s) cs t ∙ same-test (any place (places cs)) (any told (keysOf s)) to from
     where
       place : Condition → Bool

@@ -63,7 +63,7 @@ fit-open now none (some s) f = absurd f
 fit-open now (some r) none f = absurd f
 fit-open now (some r) (some s) f = refl
 
-fit-story : {now : ℕ} {r : Session} (p : Option Story) → Fit now (some r) p → (s : Story) × (p ≡ some s) × Fits now r s
+pub fit-story : {now : ℕ} {r : Session} (p : Option Story) → Fit now (some r) p → (s : Story) × (p ≡ some s) × Fits now r s
 fit-story none f = absurd f
 fit-story (some s) f = (s, refl, f)
 

@@ -5,6 +5,7 @@ use native.Mathlib.Omega.{arith}
 use mathlib.Core.Path.{_≡_, refl, sym, ap, _∙_}
 use mathlib.Core.Bool.{Bool, true, false, cond, not, _&&_}
 use mathlib.Core.Option.{Option, none, some}
+use mathlib.Core.Logic.{_⊎_, inl, inr, ⊎-elim}
 use lib.Dec.{eqb}
 use borrow.Author.Tests.{le-ltb, eqb-true}
 use Rattle.octets.specs.Choice.{need, bar}
@@ -167,24 +168,30 @@ call-agrees l now (On m a) none h = split (eqb m l) (λ e. rw e (ap (shown (actR
 call-agrees l now (On m a) (some s) h =
     split (eqb m l) (λ e. rw e (act-agrees now a s h)) (λ e. rw e (ap some (state-later s now (actReading a now) h)))
 
--- an accepted call brings no reading below the clock
-act-in-time : (now : ℕ) (o : Option Story) (l : ℕ) (a : Act) → isAccepted (actSaid now o l a) ≡ true → now ≤ actReading a now
+-- an accepted call brings a reading that is not late, or none
+act-brings : (now : ℕ) (o : Option Story) (l : ℕ) (a : Act) → isAccepted (actSaid now o l a) ≡ true
+    → (late now (actReading a now) ≡ false) ⊎ (actReading a now ≡ now)
 unfolding actSaid
-act-in-time now o l (Close t) e = not-late now t (bar-passed (late now t) 0 (need (isOpen o) 2 0) (eqb-true _ 0 e) .0)
-act-in-time now o l (Lock t) e = not-late now t (bar-passed (late now t) 0 (need (isOpen o) 2 0) (eqb-true _ 0 e) .0)
-act-in-time now o l (Unlock t) e = not-late now t (bar-passed (late now t) 0 (need (isOpen o) 2 0) (eqb-true _ 0 e) .0)
-act-in-time now o l (Receive m t) e = not-late now t (bar-passed (late now t) 0 (receiveNumber o m t) (eqb-true _ 0 e) .0)
-act-in-time now o l ReportOn e = omega arith
-act-in-time now o l (WriteCc b) e = omega arith
-act-in-time now o l (WriteCv b) e = omega arith
+act-brings now o l (Close t) e = inl (bar-passed (late now t) 0 (need (isOpen o) 2 0) (eqb-true _ 0 e) .0)
+act-brings now o l (Lock t) e = inl (bar-passed (late now t) 0 (need (isOpen o) 2 0) (eqb-true _ 0 e) .0)
+act-brings now o l (Unlock t) e = inl (bar-passed (late now t) 0 (need (isOpen o) 2 0) (eqb-true _ 0 e) .0)
+act-brings now o l (Receive m t) e = inl (bar-passed (late now t) 0 (receiveNumber o m t) (eqb-true _ 0 e) .0)
+act-brings now o l ReportOn e = inr refl
+act-brings now o l (WriteCc b) e = inr refl
+act-brings now o l (WriteCv b) e = inr refl
 
-pub in-time : (h : History) (c : Call) → isAccepted (says h c) ≡ true → clockOf h ≤ reading c (clockOf h)
+pub brings : (h : History) (c : Call) → isAccepted (says h c) ≡ true
+    → (late (clockOf h) (reading c (clockOf h)) ≡ false) ⊎ (reading c (clockOf h) ≡ clockOf h)
 unfolding says saysOf openNumber
-in-time h (Tick t) e = not-late (clockOf h) t (bar-passed (late (clockOf h) t) 0 0 (eqb-true _ 0 e) .0)
-in-time h (Open g t) e =
-    not-late (clockOf h) t
+brings h (Tick t) e = inl (bar-passed (late (clockOf h) t) 0 0 (eqb-true _ 0 e) .0)
+brings h (Open g t) e =
+    inl
     (bar-passed (late (clockOf h) t) 0 (need (settingsFit g) 10 (bar (rival (λ l. story l h) (labels h) g) 11 (bar (full (labels h)) 12 0))) (eqb-true _ 0 e) .0)
-in-time h (On l a) e = act-in-time (clockOf h) (story l h) l a e
+brings h (On l a) e = act-brings (clockOf h) (story l h) l a e
+
+-- so none below the clock
+pub in-time : (h : History) (c : Call) → isAccepted (says h c) ≡ true → clockOf h ≤ reading c (clockOf h)
+in-time h c e = ⊎-elim (λ z. not-late (clockOf h) (reading c (clockOf h)) z) (λ z. omega arith) (brings h c e)
 
 -- the eager recursion is the story's state at the clock, for every history whose answers are the paper's
 pub timer-agrees : (h : History) → Right h → (l : ℕ) → eagerState l h ≡ shown (clockOf h) (story l h)

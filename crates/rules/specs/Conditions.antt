@@ -69,8 +69,11 @@ unfoldable pub sameKey : Key → Key → Bool
 sameKey a b = eqb (a .kind) (b .kind) && sameIfId a b && sameGlobalId a b
 
 -- a session follows AIS with L set if it follows link-down, and LKR if it follows lock
-unfoldable pub follows : Settings → ℕ → Bool → Bool
-follows s kind linkdown = cond (eqb kind 1) (linkdown && eqb (s .followlink) 1) (eqb (s .followlock) 1)
+unfoldable pub followsWith : ℕ → ℕ → ℕ → Bool → Bool
+followsWith followlink followlock kind linkdown = cond (eqb kind 1) (linkdown && eqb followlink 1) (eqb followlock 1)
+
+abbrev pub follows : Settings → ℕ → Bool → Bool
+follows s kind linkdown = followsWith (s .followlink) (s .followlock) kind linkdown
 
 -- LDI or LKR
 abbrev pub faultInput : ℕ → Input

@@ -1,12 +1,11 @@
 // The key of a fault condition, and which conditions a session follows.
 use crate::Input;
 use crate::Key;
-use crate::Settings;
 use fault::Fault;
 use fault::GlobalId;
 use fault::IfId;
 ghost use mathlib.Core.Path.{_≡_};
-ghost use Rattle.rules.specs.Conditions.{keyAt, keyWith, keyOf, sameIfId, sameGlobalId, sameKey, follows, faultInput};
+ghost use Rattle.rules.specs.Conditions.{keyAt, keyWith, keyOf, sameIfId, sameGlobalId, sameKey, followsWith, faultInput};
 
 // One enum at a time: here the IF_ID is taken apart, in `key_with` the Global_ID.
 fn key_at(kind: u8, interface: IfId, global: u32, carrier: u8) -> Key
@@ -90,17 +89,17 @@ pub fn same_key(a: Key, b: Key) -> bool
     false
 }
 
-// Whether a session follows a condition of this type and L flag.
-pub fn is_followed(s: Settings, kind: u8, linkdown: bool) -> bool
-    ensures { λ r. ⌜ r ≡ follows s kind linkdown ⌝ }
+// Whether a session with these two marks follows a condition of this type and L flag.
+pub fn is_followed(followlink: u8, followlock: u8, kind: u8, linkdown: bool) -> bool
+    ensures { λ r. ⌜ r ≡ followsWith followlink followlock kind linkdown ⌝ }
 {
     if kind == 1 {
         if linkdown {
-            return s.followlink == 1;
+            return followlink == 1;
         }
         return false;
     }
-    s.followlock == 1
+    followlock == 1
 }
 
 // LDI for AIS, LKR for a lock report.

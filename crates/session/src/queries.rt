@@ -38,24 +38,29 @@ pub fn crossing_at(s: Session, now: u64) -> bool
 }
 
 // Held down: a crossing stands, or a condition that the session follows. Every heard CC asks, and
-// most sessions have no condition: that is asked first.
+// most sessions have no condition, or none that they follow: that is asked first, of the record
+// where it lies.
 pub(crate) fn held_at(s: Session, now: u64) -> bool
     ensures { λ r. ⌜ r ≡ heldAt s now ⌝ }
 {
     if crossing_at(s, now) {
         return true;
     }
-    let settings = s.settings;
-    let places = s.conditions;
     if conditions::four_empty(
-        places.first.key.kind,
-        places.second.key.kind,
-        places.third.key.kind,
-        places.fourth.key.kind,
+        s.conditions.first.key.kind,
+        s.conditions.second.key.kind,
+        s.conditions.third.key.kind,
+        s.conditions.fourth.key.kind,
     ) {
         return false;
     }
-    conditions::any_followed(settings, places, now)
+    let link = s.settings.followlink;
+    let lock = s.settings.followlock;
+    let places = s.conditions;
+    if conditions::any_marked(link, lock, places) {
+        return conditions::any_followed(link, lock, places, now);
+    }
+    false
 }
 
 fn after_timer(loss: bool, from: State) -> State
@@ -102,11 +107,15 @@ pub fn report_at(s: Session, now: u64) -> Report
 pub fn diagnostic_at(s: Session, now: u64) -> u8
     ensures { λ r. ⌜ r ≡ diagnosticAt s now ⌝ }
 {
-    let settings = s.settings;
     let places = s.conditions;
     let locked = is_locked(s);
     let crossing = crossing_at(s, now);
-    let followed = conditions::any_followed(settings, places, now);
+    let followed = conditions::any_followed(
+        s.settings.followlink,
+        s.settings.followlock,
+        places,
+        now,
+    );
     let loss = loss_at(s, now);
     let neighbor = rules::down_by_neighbor(state_at(s, now));
     rules::diagnostic_of(locked, crossing, followed, loss, neighbor)

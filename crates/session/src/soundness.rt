@@ -23,11 +23,11 @@ fn plain_fit(state: u8, multiplier: u8, diagnostic: u8, owed: u8) -> bool
 fn crossing_fits(crossing: u8, crossed: u64, clock: u64) -> bool
     ensures { λ r. ⌜ r ≡ crossingFits crossing crossed clock ⌝ }
 {
-    if 1 < crossing {
-        return false;
-    }
     if crossing == 0 {
         return true;
+    }
+    if 1 < crossing {
+        return false;
     }
     crossed <= clock
 }

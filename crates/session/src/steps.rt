@@ -96,7 +96,7 @@ fn follows_fault(settings: Settings, f: Fault) -> bool
     if f.removed {
         return false;
     }
-    rules::is_followed(settings, f.kind, f.linkdown)
+    rules::is_followed(settings.followlink, settings.followlock, f.kind, f.linkdown)
 }
 
 fn state_by_fault(acts: bool, from: State, kind: u8) -> State

@@ -1,9 +1,9 @@
 use mathlib.Core.Path.{_≡_, refl, sym, _∙_}
 use mathlib.Core.Bool.{Bool, true, false, _&&_}
-use Rattle.conditions.specs.Standing.{placeStands, followedAt}
+use Rattle.conditions.specs.Standing.{placeStands, followedWith}
 use borrow.Author.Needs.{needs}
-use Rattle.conditions.proofs.standing.followed_at.Statement.{statement}
-use Rattle.conditions.proofs.standing.followed_at.Tie as tie
+use Rattle.conditions.proofs.standing.followed_with.Statement.{statement}
+use Rattle.conditions.proofs.standing.followed_with.Tie as tie
 
 -- the second of two tests alone, and none
 and-true : (a : Bool) → a && true ≡ a
@@ -15,14 +15,14 @@ and-false true = refl
 and-false false = refl
 
 returns : tie.Need-returns
-unfolding followedAt
+unfolding followedWith
 returns c = c .does-stand .ensures ∙ rw (← c .before .before .is-followed .ensures, c .before .if1 .taken) (sym (and-true _))
 
 returns-2 : tie.Need-returns-2
-unfolding followedAt
+unfolding followedWith
 returns-2 c =
     let a = c .before .before .before .args in
     rw (← c .before .is-followed .ensures, c .if1 .left) (sym (and-false (placeStands (a .c) (a .now))))
 
-pub followed-at-spec : {M : Type 1} → statement M
-followed-at-spec = tie.close (tie.spec (λ c κs. search needs) (λ c κs. search needs) returns returns-2)
+pub followed-with-spec : {M : Type 1} → statement M
+followed-with-spec = tie.close (tie.spec (λ c κs. search needs) (λ c κs. search needs) returns returns-2)
