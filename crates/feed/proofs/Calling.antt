@@ -29,7 +29,7 @@ use Rattle.step.specs.declared.Arrival.{Arrival}
 use Rattle.step.specs.declared.Outcome.{Outcome}
 use Rattle.step.specs.Requests.{isRequest, requestOn, requestOf}
 use Rattle.step.specs.Stepping.{tableOf, isPlace, answerOf, Obeyed, stepOf, toldBy, openingOf, obeyAt, openAt}
-use Rattle.step.specs.AtPlace.{atPlace}
+use Rattle.walks.specs.AtPlace.{atPlace}
 use Rattle.step.specs.Arriving.{messageIn, receiveAt, metAt}
 use Rattle.step.specs.Saying.{saidOf, Steps}
 use Rattle.step.proofs.TableStep.{of-64, cc-length, tick-steps, act-steps, open-steps}

@@ -2,14 +2,3 @@ pub mod Calling
 pub mod Turns
 pub mod FedPlain
 pub mod RecordPlain
-pub mod EitherWay
-pub mod OneTurn
-pub mod OpenEnd
-pub mod OpenWay
-pub mod LabelWay
-pub mod PlaceEnd
-pub mod PlaceWay
-pub mod LoopTurn
-pub mod FeedLoop
-pub mod AskEnd
-pub mod AskOnce

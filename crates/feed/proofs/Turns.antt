@@ -12,7 +12,7 @@ use borrow.Author.Tests.{eqb-true, eqb-false, ne-eqb, le-ltb, leb-true, leb-fals
 use Rattle.octets.specs.Writing.{writing}
 use Rattle.octets.proofs.Writing.{refused}
 use Rattle.message.specs.Message.{messagePlace}
-use Rattle.rules.specs.Calls.{Act, Close, Lock, Unlock, Receive, ReportOn, WriteCc, WriteCv, Call, Tick, Open, On, Said, reporting, writes}
+use Rattle.rules.specs.Calls.{Act, Close, Lock, Unlock, Receive, ReportOn, WriteCc, WriteCv, Call, Tick, Open, On, Said, isAccepted, reporting, writes}
 use Rattle.rules.proofs.Bools.{split, no-way}
 use Rattle.session.specs.declared.Session.{Session}
 use Rattle.table.specs.declared.Head.{Head}
@@ -27,7 +27,7 @@ use Rattle.capture.specs.Records.{recordIn, recordFrom, bodyIn, settingsIn, act
 use Rattle.capture.specs.Lines.{line, numbered, isReaders, plainLine, placedLine, reportLine, octetsLine}
 use Rattle.capture.specs.Typing.{Put, typed}
 use Rattle.capture.proofs.LineSaid.{isPlain, hasPlace, line-refused, line-plain, line-placed, line-report, line-cc, line-cv, written}
-use Rattle.row.proofs.Branches.{held-is, failed-is}
+use Rattle.walks.proofs.Branches.{held-is, failed-is}
 use Rattle.feed.specs.Feeding.{longest, moreOf, headOf, Flow, callNext, turnOf, goOn, feedOf}
 use Rattle.feed.specs.Calling.{bodyAt, Whole as Lengths, Calls, isUnread, refusedLine, lineBy, behindOf, Answered, answered}
 use Rattle.feed.specs.declared.Fed.{Fed}
@@ -73,7 +73,7 @@ module _ (f : Fed) (input : List ℕ) (room : ℕ) (h : Holds (moreOf f input ro
   pub more-says : (f .used + 16 ≤ length input) × (16 ≤ sizeOf (nextIn s))
   more-says = (omega (arith, in-full .0 .0, length-drop (f .used) input), omega (arith, in-full .1))
 
-  behind-is : behindOf (length input) (f .used) (recordIn s .size) ≡ f .used + sizeOf (nextIn s)
+  pub behind-is : behindOf (length input) (f .used) (recordIn s .size) ≡ f .used + sizeOf (nextIn s)
   behind-is =
       let no : ltb (length input - f .used) (16 + recordIn s .size) ≡ false = le-ltb (length input - f .used) (16 + recordIn s .size) (omega (arith, in-full .0 .1, length-drop (f .used) input)) in
       rw (no, in-full .1)
@@ -228,6 +228,20 @@ module _ (number : ℕ) (o : Outcome) (n : Lengths o) where
         (λ b. rw (a, b) (cv-line (r .label) z)))))
         (λ k. rw (z, k) (accepted-is z k)))
         (λ z. rw z (refused-is z))
+
+    -- what is said is accepted exactly where the outcome's answer is 0
+    pub said-accepted : isAccepted (saidOf c o) ≡ eqb (o .answer) 0
+    said-accepted =
+        split (eqb (o .answer) 0)
+        (λ z. split (leb 6 (r .kind))
+        (λ k. rw (told-kind k)
+        (split (eqb (r .kind) 6)
+        (λ a. rw (a, z))
+        (λ a. split (eqb (r .kind) 7)
+        (λ b. rw (a, b) (ap isAccepted (cc-said (r .label) z) ∙ sym z))
+        (λ b. rw (a, b) (ap isAccepted (cv-said (r .label) z) ∙ sym z)))))
+        (λ k. ap (λ (n : ℕ). eqb n 0) (plain-said c (plain-kind k))))
+        (λ z. ap (λ (n : ℕ). eqb n 0) (refused-said c z))
 
 -- ---- one turn of the definition
 abbrev pub flow : List Session → Fed → List ℕ → Flow

@@ -2,12 +2,13 @@
 -- Assumes nothing.
 use Prim.Native.Nat.{ℕ, _+_, _-_, _^_, _≤_, _<_}
 use mathlib.Core.Path.{_≡_}
-use mathlib.Core.Bool.{Bool, cond, false, _&&_}
+use mathlib.Core.Bool.{Bool, cond, true, false, _&&_}
 use mathlib.Core.List.{List}
 use lib.Dec.{eqb, ltb, leb}
 use lib.ListN.{length, take, drop}
 use Rattle.message.specs.Message.{messagePlace}
 use Rattle.session.specs.declared.Session.{Session}
+use Rattle.table.specs.declared.Head.{Head}
 use Rattle.table.specs.Table.{inOrder}
 use Rattle.scan.specs.declared.Summary.{Summary}
 use Rattle.step.specs.declared.Request.{Request}
@@ -16,14 +17,14 @@ use Rattle.step.specs.declared.Opening.{Opening}
 use Rattle.step.specs.declared.Arrival.{Arrival}
 use Rattle.step.specs.declared.Told.{Told}
 use Rattle.step.specs.declared.Outcome.{Outcome}
-use Rattle.step.specs.Stepping.{tableOf, Obeyed, obeyAt}
-use Rattle.step.specs.Arriving.{receiveAt}
+use Rattle.step.specs.Stepping.{tableOf}
 use Rattle.step.specs.Saying.{Steps}
 use Rattle.capture.specs.declared.Record.{Record}
-use Rattle.capture.specs.Records.{bodyIn, settingsIn, callOf}
+use Rattle.capture.specs.Records.{recordFrom, bodyIn, settingsIn, callOf}
 use Rattle.capture.specs.Lines.{isReaders, numbered, plainLine, placedLine, reportLine, octetsLine}
 use Rattle.capture.specs.Typing.{typed}
 use Rattle.feed.specs.declared.Fed.{Fed}
+use Rattle.feed.specs.Feeding.{moreOf, turnOf}
 
 abbrev pub bodyAt : List ℕ → Fed → Record → List ℕ
 bodyAt input f r = bodyIn (drop (f .used) input) (r .size)
@@ -61,10 +62,6 @@ requestIn r =
     (cond (eqb (r .kind) 6) (ReportOn (r .label))
     (cond (eqb (r .kind) 7) (WriteCc (r .label) 28) (WriteCv (r .label) 44))))))
 
--- a call at the place of its label
-unfoldable pub actAt : List Session → ℕ → Bool → Fed → Record → List ℕ → Obeyed
-actAt row place sound f r input = cond (eqb (r .kind) 5) (receiveAt row (arrivalIn f r place sound) input) (obeyAt row (f .head) (seenAt place sound) (requestIn r))
-
 -- the octets that can be told have their lengths; a CV that was written into 44 octets has 44
 abbrev pub Whole : Outcome → Type 0
 Whole o = (length (o .told .cc) ≡ 28) × (length (o .told .cv .octets) ≡ 78) × (o .answer ≡ 0 → o .told .cv .count ≡ 44)
@@ -92,6 +89,10 @@ isUnread kind answer = eqb kind 5 && isReaders answer
 unfoldable pub refusedLine : ℕ → ℕ → ℕ → List ℕ → List ℕ
 refusedLine number kind answer body = cond (isUnread kind answer) (placedLine number answer (messagePlace body)) (plainLine number answer)
 
+-- the line of a call that tells nothing but its answer
+abbrev pub answerLine : ℕ → ℕ → ℕ → List ℕ → List ℕ
+answerLine number kind answer body = cond (eqb answer 0) (plainLine number 0) (refusedLine number kind answer body)
+
 -- the line of an outcome, by the record's kind
 unfoldable pub lineBy : ℕ → ℕ → Outcome → List ℕ → List ℕ
 lineBy number kind o body = cond (eqb (o .answer) 0) (acceptedLine number kind (o .told)) (refusedLine number kind (o .answer) body)
@@ -99,6 +100,10 @@ lineBy number kind o body = cond (eqb (o .answer) 0) (acceptedLine number kind (
 -- the place behind a record; its own where it does not stand whole in so many octets
 abbrev pub behindOf : ℕ → ℕ → ℕ → ℕ
 behindOf octets used size = cond (ltb (octets - used) (16 + size)) used (used + (16 + size))
+
+-- how far the table is fed behind a record of an input of so many octets
+abbrev pub fedOn : Fed → Record → ℕ → Head → ℕ → Fed
+fedOn f r octets head written = record { head = head; number = numbered (f .number); used = behindOf octets (f .used) (r .size); written = written }
 
 -- what is fed after a call, and the output
 pub record Answered : Type 0 where
@@ -108,4 +113,14 @@ pub record Answered : Type 0 where
 unfoldable pub answered : List ℕ → Fed → List ℕ → Record → Outcome → Answered
 answered out f input r o =
     let p = typed (record { buffer = out; at = f .written }) (lineBy (numbered (f .number)) (r .kind) o (bodyAt input f r)) in
-    record { fed = record { head = o .head; number = numbered (f .number); used = behindOf (length input) (f .used) (r .size); written = p .at }; out = p .buffer }
+    record { fed = fedOn f r (length input) (o .head) (p .at); out = p .buffer }
+
+-- the record that stands next brings a message
+abbrev pub messageNext : List ℕ → Fed → Bool
+messageNext input f = eqb (recordFrom (drop (f .used) input) .kind) 5
+
+-- a turn where a record stands next: it takes octets, and on a row of which it is known whether it is in order it is the definition's
+abbrev pub Turns : List Session → List ℕ → Bool → Fed → List ℕ → Fed → List Session → List ℕ → Type 0
+Turns row out sound f input g zs ps =
+    moreOf f input (length out) ≡ true
+    → (f .used < g .used) × (sound ≡ inOrder (tableOf row (f .head)) → record { row = zs; fed = g; out = ps } ≡ turnOf input (record { row = row; fed = f; out = out }))

@@ -1,10 +1,9 @@
 // The call of one record on the row: an open behind the search for a rival, the others at the place
-// of their label.
+// of their label. A message goes by itself: most records bring one, and it tells nothing.
 use crate::Fed;
 use crate::asking::arrival_in;
 use crate::asking::head_of;
 use crate::asking::is_open;
-use crate::asking::is_received;
 use crate::asking::label_of;
 use crate::asking::occupied_of;
 use crate::asking::opening_discriminator;
@@ -25,7 +24,9 @@ use step::Outcome;
 ghost use mathlib.Core.Path.{_≡_};
 ghost use mathlib.Core.Bool.{true, false};
 ghost use lib.Dec.{eqb};
-ghost use Rattle.feed.specs.Calling.{actAt, Calls};
+ghost use Rattle.step.specs.Stepping.{obeyAt};
+ghost use Rattle.step.specs.Arriving.{receiveAt};
+ghost use Rattle.feed.specs.Calling.{seenAt, arrivalIn, requestIn, Calls};
 
 fn open_call(row: &mut [Session], sound: bool, f: Fed, r: Record, input: &[u8]) -> Outcome
     ensures { λ o. ⌜ ((eqb (r .kind) 1 ≡ true) → Calls (now (row .entry)) f r (now (input .entry)) sound o (now (row .exit))) ⌝ }
@@ -40,8 +41,8 @@ fn open_call(row: &mut [Session], sound: bool, f: Fed, r: Record, input: &[u8]) 
     open_at(row, head, s, g)
 }
 
-// At the place of its label: a message, or a request that brings numbers alone.
-fn act_call(
+// A message, at the place of its label.
+fn message_call(
     row: &mut [Session],
     place: usize,
     sound: bool,
@@ -49,12 +50,24 @@ fn act_call(
     r: Record,
     input: &[u8],
 ) -> Outcome
-    ensures { λ o. ⌜ record { outcome = o; row = now (row .exit) } ≡ actAt (now (row .entry)) place sound f r (now (input .entry)) ⌝ }
+    ensures { λ o. ⌜ record { outcome = o; row = now (row .exit) } ≡ receiveAt (now (row .entry)) (arrivalIn f r place sound) (now (input .entry)) ⌝ }
 {
-    if is_received(r) {
-        let x = arrival_in(f, r, place, sound);
-        return receive_at(row, x, input);
-    }
+    let x = arrival_in(f, r, place, sound);
+    receive_at(row, x, input)
+}
+
+// A request that brings numbers alone, at the place of its label. The input is not looked at; it is
+// handed in because calls of one shape share one proof.
+fn request_call(
+    row: &mut [Session],
+    place: usize,
+    sound: bool,
+    f: Fed,
+    r: Record,
+    _input: &[u8],
+) -> Outcome
+    ensures { λ o. ⌜ record { outcome = o; row = now (row .exit) } ≡ obeyAt (now (row .entry)) (f .head) (seenAt place sound) (requestIn r) ⌝ }
+{
     let s = seen_at(place, sound);
     let head = head_of(f);
     let q = request_in(r);
@@ -69,15 +82,16 @@ fn label_call(
     r: Record,
     input: &[u8],
 ) -> Outcome
-    ensures { λ o. ⌜ ((eqb (r .kind) 1 ≡ false) → Calls (now (row .entry)) f r (now (input .entry)) sound o (now (row .exit))) ⌝ }
+    ensures { λ o. ⌜ ((eqb (r .kind) 1 ≡ false) → (eqb (r .kind) 5 ≡ false) → Calls (now (row .entry)) f r (now (input .entry)) sound o (now (row .exit))) ⌝ }
 {
     let occupied = sought_in(f, r);
     let label = label_of(r);
     let place = place_known(&*row, hints, occupied, label);
-    act_call(row, place, sound, f, r, input)
+    request_call(row, place, sound, f, r, input)
 }
 
-pub fn call(
+// The call of a record that brings a message.
+pub fn receive_call(
     row: &mut [Session],
     hints: &mut [u8],
     sound: bool,
@@ -85,7 +99,24 @@ pub fn call(
     r: Record,
     input: &[u8],
 ) -> Outcome
-    ensures { λ o. ⌜ Calls (now (row .entry)) f r (now (input .entry)) sound o (now (row .exit)) ⌝ }
+    ensures { λ o. ⌜ ((eqb (r .kind) 5 ≡ true) → Calls (now (row .entry)) f r (now (input .entry)) sound o (now (row .exit))) ⌝ }
+{
+    let occupied = sought_in(f, r);
+    let label = label_of(r);
+    let place = place_known(&*row, hints, occupied, label);
+    message_call(row, place, sound, f, r, input)
+}
+
+// The call of any other record.
+pub fn other_call(
+    row: &mut [Session],
+    hints: &mut [u8],
+    sound: bool,
+    f: Fed,
+    r: Record,
+    input: &[u8],
+) -> Outcome
+    ensures { λ o. ⌜ ((eqb (r .kind) 5 ≡ false) → Calls (now (row .entry)) f r (now (input .entry)) sound o (now (row .exit))) ⌝ }
 {
     if is_open(r) {
         return open_call(row, sound, f, r, input);

@@ -6,22 +6,26 @@ mod calls;
 mod records;
 
 use asking::head_of;
-use asking::nothing_sought;
-use asking::sound_of;
-use calls::call;
+pub use asking::nothing_sought;
+pub use asking::sound_of;
+pub use calls::other_call;
+pub use calls::receive_call;
 use records::answer_line;
+pub use records::behind;
+use records::brings_message;
+use records::message_line;
 use records::more;
+pub use records::number_after;
 use records::record_next;
 use row::scan_row;
 use session::Session;
 use table::Head;
 ghost use mathlib.Core.Path.{_≡_};
-ghost use Prim.Native.Nat.{_<_};
-ghost use mathlib.Core.Bool.{true};
-ghost use lib.ListN.{length};
+ghost use mathlib.Core.Bool.{true, false};
 ghost use Rattle.table.specs.Table.{inOrder};
 ghost use Rattle.step.specs.Stepping.{tableOf};
-ghost use Rattle.feed.specs.Feeding.{moreOf, turnOf, feedOf};
+ghost use Rattle.feed.specs.Feeding.{feedOf};
+ghost use Rattle.feed.specs.Calling.{messageNext, Turns};
 
 // How far a table is fed: clock and set, records so far, octets used and written.
 pub struct Fed {
@@ -31,7 +35,40 @@ pub struct Fed {
     pub written: usize,
 }
 
-// One record: its call, and its line. It takes octets of the input, whatever `sound` is.
+// A record that brings a message: its call, and its line.
+fn message_turn(
+    row: &mut [Session],
+    hints: &mut [u8],
+    out: &mut [u8],
+    sound: bool,
+    f: Fed,
+    input: &[u8],
+) -> Fed
+    ensures { λ g. ⌜ ((messageNext (now (input .entry)) f ≡ true) → Turns (now (row .entry)) (now (out .entry)) sound f (now (input .entry)) g (now (row .exit)) (now (out .exit))) ⌝ }
+{
+    let r = record_next(input, f);
+    let o = receive_call(row, hints, sound, f, r, input);
+    message_line(out, f, input, r, o)
+}
+
+// Any other record.
+fn other_turn(
+    row: &mut [Session],
+    hints: &mut [u8],
+    out: &mut [u8],
+    sound: bool,
+    f: Fed,
+    input: &[u8],
+) -> Fed
+    ensures { λ g. ⌜ ((messageNext (now (input .entry)) f ≡ false) → Turns (now (row .entry)) (now (out .entry)) sound f (now (input .entry)) g (now (row .exit)) (now (out .exit))) ⌝ }
+{
+    let r = record_next(input, f);
+    let o = other_call(row, hints, sound, f, r, input);
+    answer_line(out, f, input, r, o)
+}
+
+// One record: its call, and its line. It takes octets of the input, whatever `sound` is. Where it
+// brings a message nothing is told, and room for what is told is not made.
 fn turn(
     row: &mut [Session],
     hints: &mut [u8],
@@ -40,11 +77,12 @@ fn turn(
     f: Fed,
     input: &[u8],
 ) -> Fed
-    ensures { λ g. ⌜ ((moreOf f (now (input .entry)) (length (now (out .entry))) ≡ true) → (f .used < g .used) × ((sound ≡ inOrder (tableOf (now (row .entry)) (f .head))) → (record { row = now (row .exit); fed = g; out = now (out .exit) } ≡ turnOf (now (input .entry)) (record { row = now (row .entry); fed = f; out = now (out .entry) })))) ⌝ }
+    ensures { λ g. ⌜ Turns (now (row .entry)) (now (out .entry)) sound f (now (input .entry)) g (now (row .exit)) (now (out .exit)) ⌝ }
 {
-    let r = record_next(input, f);
-    let o = call(row, hints, sound, f, r, input);
-    answer_line(out, f, input, r, o)
+    if brings_message(input, f) {
+        return message_turn(row, hints, out, sound, f, input);
+    }
+    other_turn(row, hints, out, sound, f, input)
 }
 
 // The records, one after the other. `sound` is whether the row is in order.

@@ -14,15 +14,17 @@ use octets::both;
 use octets::part;
 use step::Outcome;
 use step::Told;
+use table::Head;
 ghost use mathlib.Core.Path.{_≡_};
+ghost use mathlib.Core.Bool.{true};
 ghost use Prim.Native.Nat.{_-_};
-ghost use lib.Dec.{leb};
+ghost use lib.Dec.{eqb, leb};
 ghost use lib.ListN.{length, drop};
 ghost use Rattle.capture.specs.Records.{recordFrom, bodyIn};
 ghost use Rattle.capture.specs.Lines.{numbered};
 ghost use Rattle.capture.specs.Typing.{typed};
 ghost use Rattle.feed.specs.Feeding.{longest, moreOf};
-ghost use Rattle.feed.specs.Calling.{toldLine, isUnread, refusedLine, lineBy, behindOf, answered};
+ghost use Rattle.feed.specs.Calling.{messageNext, toldLine, isUnread, refusedLine, answerLine, lineBy, behindOf, fedOn, answered};
 
 fn has_room(room: usize, written: usize) -> bool
     ensures { λ r. ⌜ r ≡ leb longest (room - written) ⌝ }
@@ -43,6 +45,13 @@ pub fn more(f: Fed, input: &[u8], room: usize) -> bool
     false
 }
 
+// Whether the record that stands next brings a message.
+pub fn brings_message(input: &[u8], f: Fed) -> bool
+    ensures { λ t. ⌜ t ≡ messageNext (now (input .entry)) f ⌝ }
+{
+    record_at(input, f.used).kind == 5
+}
+
 // The record that stands next.
 pub fn record_next(input: &[u8], f: Fed) -> Record
     ensures { λ r. ⌜ r ≡ recordFrom (drop (f .used) (now (input .entry))) ⌝ }
@@ -51,7 +60,7 @@ pub fn record_next(input: &[u8], f: Fed) -> Record
 }
 
 // The place behind a record; its own where it does not stand whole in so many octets.
-fn behind(octets: usize, used: usize, size: u16) -> usize
+pub fn behind(octets: usize, used: usize, size: u16) -> usize
     ensures { λ r. ⌜ r ≡ behindOf octets used size ⌝ }
 {
     if octets < used {
@@ -64,7 +73,7 @@ fn behind(octets: usize, used: usize, size: u16) -> usize
     used + all
 }
 
-fn number_after(n: u64) -> u64
+pub fn number_after(n: u64) -> u64
     ensures { λ r. ⌜ r ≡ numbered n ⌝ }
 {
     if n < 18_446_744_073_709_551_615 {
@@ -117,6 +126,24 @@ fn put_refused(
     put_plain(out, at, number, answer)
 }
 
+// The line of a call that tells nothing but its answer.
+fn put_answer(
+    out: &mut [u8],
+    at: usize,
+    number: u64,
+    r: Record,
+    answer: u32,
+    input: &[u8],
+    used: usize,
+) -> usize
+    ensures { λ n. ⌜ record { buffer = now (out .exit); at = n } ≡ typed (record { buffer = now (out .entry); at = at }) (answerLine number (r .kind) answer (bodyIn (drop used (now (input .entry))) (r .size))) ⌝ }
+{
+    if answer != 0 {
+        return put_refused(out, at, number, r, answer, input, used);
+    }
+    put_plain(out, at, number, 0)
+}
+
 // The line of an outcome, by the record's kind.
 fn put_by(
     out: &mut [u8],
@@ -139,18 +166,34 @@ fn put_by(
     put_told(out, at, number, r.kind, told)
 }
 
+// How far the table is fed behind a record of an input of so many octets.
+fn fed_on(f: Fed, r: Record, octets: usize, head: Head, written: usize) -> Fed
+    ensures { λ g. ⌜ g ≡ fedOn f r octets head written ⌝ }
+{
+    Fed {
+        head: head,
+        number: number_after(f.number),
+        used: behind(octets, f.used, r.size),
+        written: written,
+    }
+}
+
 // The line for a record's outcome, and how far the table is fed then.
 pub fn answer_line(out: &mut [u8], f: Fed, input: &[u8], r: Record, o: Outcome) -> Fed
     ensures { λ g. ⌜ record { fed = g; out = now (out .exit) } ≡ answered (now (out .entry)) f (now (input .entry)) r o ⌝ }
 {
     let number = number_after(f.number);
-    let used = behind(input.len(), f.used, r.size);
     let head = o.head;
     let written = put_by(out, f.written, number, r, o, input, f.used);
-    Fed {
-        head: head,
-        number: number,
-        used: used,
-        written: written,
-    }
+    fed_on(f, r, input.len(), head, written)
+}
+
+// The same for a message: of its outcome only head and answer are asked for.
+pub fn message_line(out: &mut [u8], f: Fed, input: &[u8], r: Record, o: Outcome) -> Fed
+    ensures { λ g. ⌜ ((eqb (r .kind) 5 ≡ true) → record { fed = g; out = now (out .exit) } ≡ answered (now (out .entry)) f (now (input .entry)) r o) ⌝ }
+{
+    let number = number_after(f.number);
+    let next = o.head;
+    let written = put_answer(out, f.written, number, r, o.answer, input, f.used);
+    fed_on(f, r, input.len(), next, written)
 }

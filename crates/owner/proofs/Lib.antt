@@ -1,2 +1,3 @@
 pub mod FeedingPlain
 pub mod SessionArray
+pub mod OwnRow

@@ -1,12 +1,12 @@
--- Octets moved to the front of their own buffer, one by one.
+-- Octets moved to the front of their own buffer, one by one; and octets read behind those that are there.
 -- Assumes nothing.
-use Prim.Native.Nat.{ℕ, _+_, _-_, _≤_, _<_}
+use Prim.Native.Nat.{ℕ, _+_, _-_, _≤_, _<_, min}
 use native.Mathlib.Omega.{arith}
 use native.Mathlib.Nat.{zero-add}
 use mathlib.Core.Path.{_≡_, sym, ap, _∙_}
 use mathlib.Core.List.{List, _++_}
-use lib.ListN.{length, getD, set, take, drop, length-drop}
-use lib.Seq.{sets, getD-drop, getD-take, getD-append-add, length-take-le, take-all}
+use lib.ListN.{length, getD, set, take, drop, length-drop, length-append}
+use lib.Seq.{sets, getD-drop, getD-take, getD-append-add, length-take-le, take-all, take-append-add}
 use Rattle.octets.proofs.Runs.{front, more}
 
 -- the octets from a place to another
@@ -41,3 +41,20 @@ module _ (l : List ℕ) (from to : ℕ) (fits : to ≤ length l) where
   -- all are moved
   pub moved-all : (i : ℕ) → to ≤ from + i → sets l 0 (take i (between l from to)) ≡ sets l 0 (between l from to)
   moved-all i h = ap (sets l 0) (take-all i (between l from to) (omega (arith, between-length)))
+
+-- ---- octets that a read brought stand behind those that were there
+abbrev pub joined : ℕ → List ℕ → List ℕ → List ℕ
+joined have buf part = take have buf ++ part
+
+module _ (have : ℕ) (buf : List ℕ) (n : ℕ) (part : List ℕ) (there : have ≤ length buf) (room : length part ≡ length buf - have) (few : n ≤ length part) where
+  pub joined-length : length (joined have buf part) ≡ length buf
+  joined-length = omega (arith, length-append (take have buf) part, length-take-le have buf there)
+
+  pub so-many : min (have + n) (length (joined have buf part)) ≡ have + n
+  so-many = omega (arith, joined-length)
+
+  pub read-in : take (min (have + n) (length (joined have buf part))) (joined have buf part) ≡ take have buf ++ take n part
+  read-in =
+      ap (λ (k : ℕ). take k (joined have buf part)) so-many
+      ∙ ap (λ (k : ℕ). take (k + n) (joined have buf part)) (sym (length-take-le have buf there))
+      ∙ take-append-add (take have buf) part n

@@ -2,20 +2,21 @@
 -- Assumes nothing.
 use Prim.Native.Nat.{ℕ, _≤_, _<_}
 use native.Mathlib.Omega.{arith}
-use mathlib.Core.Path.{_≡_, sym, ap, _∙_}
-use mathlib.Core.Bool.{Bool, true, false, cond}
+use mathlib.Core.Path.{_≡_, refl, sym, ap, subst, _∙_}
+use mathlib.Core.Bool.{Bool, true, false, not, cond}
 use mathlib.Core.List.{List, []}
-use lib.Dec.{ltb}
+use lib.Dec.{T as Holds, ltb}
 use lib.ListN.{length, take}
 use lib.Seq.{sets}
 use borrow.Author.Tests.{lt-ltb, le-ltb, ltb-true, ltb-false, eq-eqb, ne-eqb}
 use Rattle.rules.proofs.Bools.{split}
-use Rattle.capture.specs.Records.{headerFits, nextIn}
+use Rattle.capture.specs.Records.{headerFits, nextIn, isWhole}
 use Rattle.owner.specs.declared.Feeding.{Feeding}
-use Rattle.feed.specs.Feeding.{Flow, feedOf}
+use Rattle.feed.specs.Feeding.{Flow, moreOf, feedOf}
+use Rattle.feed.proofs.Turns.{stops, begins}
 use Rattle.text.specs.Text.{cut, badHeader, ending}
 use Rattle.pump.specs.declared.Pump.{Pump}
-use Rattle.pump.specs.Pumping.{Pumped, Within, Shifted, same, lastWords, finishedOf, atFront, linesPut, isOver, fedTo, fedOn, headerRead, isWaiting, headed, begunOn, isReady, fedBehind, turnOf}
+use Rattle.pump.specs.Pumping.{Pumped, Within, Shifted, same, lastWords, finishedOf, atFront, linesPut, isOver, unfedTo, fedTo, fedOn, headerRead, isWaiting, headed, begunOn, isReady, fedBehind, turnOf}
 
 module _ (p : Pump) (buf out : List ℕ) (n : ℕ) (w : Within (p .have) buf n) where
   -- so many octets of input are there
@@ -48,18 +49,39 @@ module _ (p : Pump) (buf out : List ℕ) (n : ℕ) (w : Within (p .have) buf n) 
     unfolding fedTo
     lines l have buf′ s = rw (s .count, s .moved, w .same-part, ← fed, lt-ltb 0 (u .fed .used) l)
 
-    module _ (none : u .fed .used ≤ 0) where
-      -- how the text ends
-      pub ends : isOver (p .closed) (nextIn (take n buf)) ≡ true → (q : Pump) (out′ : List ℕ)
-          → (q ≡ lastWords p (length (cond (ltb 0 n) cut []))) × (out′ ≡ sets after 0 (cond (ltb 0 n) cut []))
-          → record { pump = q; buf = buf; out = out′ } ≡ fedOn p buf out
-      unfolding fedTo finishedOf
-      ends o q out′ s = rw (s .0, s .1, ending-is, ← fed, le-ltb 0 (u .fed .used) none, ← w .same-part, o)
+    -- none was
+    pub took-none : u .fed .used ≤ 0 → unfedTo p buf after ≡ fedOn p buf out
+    unfolding fedTo
+    took-none none = rw (← fed, le-ltb 0 (u .fed .used) none)
 
-      -- more is to be read
-      pub stays : isOver (p .closed) (nextIn (take n buf)) ≡ false → same p buf after ≡ fedOn p buf out
-      unfolding fedTo
-      stays o = rw (← fed, le-ltb 0 (u .fed .used) none, ← w .same-part, o)
+  -- no whole record is there
+  abbrev fresh : Feeding
+  fresh = atFront (p .table)
+
+  none-stands : isWhole (nextIn (take n buf)) ≡ false → moreOf (fresh .fed) (take n buf) (length out) ≡ false
+  unfolding moreOf atFront
+  none-stands e = rw e
+
+  none-used : fresh .fed .used ≡ 0
+  unfolding atFront
+  none-used = refl
+
+  pub none-fed : isWhole (nextIn (take n buf)) ≡ false → unfedTo p buf out ≡ fedOn p buf out
+  none-fed e =
+      let x : Flow = record { row = fresh .row; fed = fresh .fed; out = out } in
+      let no : Holds (not (moreOf (fresh .fed) (take n buf) (length out))) = subst (λ (t : Bool). Holds (not t)) (sym (none-stands e)) tt in
+      took-none fresh fresh out refl (sym (stops (take n buf) (length (take n buf)) x no) ∙ begins (fresh .row) (fresh .fed) (take n buf) out) (omega (arith, none-used))
+
+  -- how the text ends
+  pub ends : isOver (p .closed) (nextIn (take n buf)) ≡ true → (q : Pump) (out′ : List ℕ)
+      → (q ≡ lastWords p (length (cond (ltb 0 n) cut []))) × (out′ ≡ sets out 0 (cond (ltb 0 n) cut []))
+      → record { pump = q; buf = buf; out = out′ } ≡ unfedTo p buf out
+  unfolding finishedOf
+  ends o q out′ s = rw (s .0, s .1, ending-is, ← w .same-part, o)
+
+  -- more is to be read
+  pub stays : isOver (p .closed) (nextIn (take n buf)) ≡ false → same p buf out ≡ unfedTo p buf out
+  stays o = rw (← w .same-part, o)
 
   -- ---- the header
   pub waits : isWaiting (p .closed) n ≡ true → same p buf out ≡ headed p buf out

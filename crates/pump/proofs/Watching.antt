@@ -7,7 +7,7 @@ use mathlib.Core.Bool.{Bool, true, false, _||_}
 use mathlib.Core.List.{List, [], _∷_, _++_, append-assoc, append-nil}
 use lib.Dec.{eqb}
 use lib.ListN.{length, take, drop, length-append, length-drop}
-use lib.Seq.{length-take-le, take-append-add, drop-drop, take-add, take-take}
+use lib.Seq.{length-take-le, drop-drop, take-add, take-take}
 use borrow.Author.Tests.{eqb-false}
 use Rattle.octets.specs.Choice.{bitOf}
 use Rattle.octets.proofs.Runs.{front}
@@ -16,27 +16,11 @@ use Rattle.text.specs.Text.{textAfter, textOf}
 use Rattle.pump.specs.declared.Pump.{Pump}
 use Rattle.pump.specs.Pumping.{Pumped, starting, pendingIn, gotOf, tookOf, inputIn, turnOf}
 use Rattle.pump.specs.Watching.{CallAnswer, Came, Took, Watched, beforeCalls, oneCall, watched, AnswersCall, AllAnswered, Front, MayCome, TextWritten}
+use Rattle.pump.proofs.Shifting.{joined, joined-length, so-many, read-in}
 use Rattle.pump.proofs.Between.{Fresh, Going, Ended, Stage, Places, Sound, Settled, wants-read, wants-write, wants-nothing, bit-small, none-pending}
 use Rattle.pump.proofs.Keeping.{After, turn-after}
 
 -- ---- a call
-abbrev joined : Pump → List ℕ → List ℕ → List ℕ
-joined p buf part = take (p .have) buf ++ part
-
--- the octets that a read brought stand behind those that were there
-module _ (p : Pump) (buf : List ℕ) (n : ℕ) (part : List ℕ) (there : p .have ≤ length buf) (room : length part ≡ length buf - p .have) (few : n ≤ length part) where
-  joined-length : length (joined p buf part) ≡ length buf
-  joined-length = omega (arith, length-append (take (p .have) buf) part, length-take-le (p .have) buf there)
-
-  so-many : min (p .have + n) (length (joined p buf part)) ≡ p .have + n
-  so-many = omega (arith, joined-length)
-
-  read-in : take (min (p .have + n) (length (joined p buf part))) (joined p buf part) ≡ inputIn p buf ++ take n part
-  read-in =
-      ap (λ (k : ℕ). take k (joined p buf part)) so-many
-      ∙ ap (λ (k : ℕ). take (k + n) (joined p buf part)) (sym (length-take-le (p .have) buf there))
-      ∙ take-append-add (take (p .have) buf) part n
-
 -- the octets that a write took stand before those that are left
 module _ (p : Pump) (out : List ℕ) (order : p .from ≤ p .to) (fits : p .to ≤ length out) where
   pending-length : length (pendingIn p out) ≡ p .to - p .from
@@ -83,18 +67,18 @@ module _ (x : Watched) (i : Holds x) where
     came′ = x .came ++ take n part
 
     abbrev got : Pumped
-    got = record { pump = gotOf q n (length (joined q (x .core .buf) part)); buf = joined q (x .core .buf) part; out = x .core .out }
+    got = record { pump = gotOf q n (length (joined (q .have) (x .core .buf) part)); buf = joined (q .have) (x .core .buf) part; out = x .core .out }
 
     got-places : Places got
     unfolding gotOf
     got-places =
-        let len = joined-length q (x .core .buf) n part (within .there) (a .1) (a .2) in
-        let many = so-many q (x .core .buf) n part (within .there) (a .1) (a .2) in
+        let len = joined-length (q .have) (x .core .buf) n part (within .there) (a .1) (a .2) in
+        let many = so-many (q .have) (x .core .buf) n part (within .there) (a .1) (a .2) in
         record { big = omega (arith, len, within .big); wide = within .wide; there = omega (arith, len, many, within .there); order = within .order; fits = within .fits }
 
     got-input : inputIn (got .pump) (got .buf) ≡ inputIn q (x .core .buf) ++ take n part
     unfolding gotOf
-    got-input = read-in q (x .core .buf) n part (within .there) (a .1) (a .2)
+    got-input = read-in (q .have) (x .core .buf) n part (within .there) (a .1) (a .2)
 
     got-going : Going (x .core) (x .came) (x .written) → Going got came′ (x .written)
     unfolding gotOf

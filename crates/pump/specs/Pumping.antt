@@ -125,13 +125,19 @@ cannotMend End = false
 abbrev pub isOver : Bool → Next → Bool
 isOver closed next = closed || cannotMend next
 
--- a feed that took records left their lines; where it took none, how the text ends is put once that is known
+-- where nothing is fed, how the text ends is put once that is known
+abbrev pub unfedTo : Pump → List ℕ → List ℕ → Pumped
+unfedTo p buf out =
+    let input = inputIn p buf in
+    cond (isOver (p .closed) (nextIn input)) (finishedOf p buf out (ending input)) (same p buf out)
+
+-- a feed that took records left their lines
 unfoldable pub fedTo : Pump → List ℕ → Flow → Pumped
 fedTo p buf y =
     let input = inputIn p buf in
     cond (ltb 0 (y .fed .used))
     (record { pump = linesPut p y (length (drop (y .fed .used) input)); buf = movedTo buf input (y .fed .used); out = y .out })
-    (cond (isOver (p .closed) (nextIn input)) (finishedOf p buf (y .out) (ending input)) (same p buf (y .out)))
+    (unfedTo p buf (y .out))
 
 -- behind the header: as many records as are there and as many lines as fit
 unfoldable pub fedOn : Pump → List ℕ → List ℕ → Pumped

@@ -5,8 +5,9 @@ mod moving;
 mod turns;
 
 pub use failures::put_failure;
-use moving::advance;
+pub use moving::advance;
 pub use moving::part;
+pub use moving::shift;
 pub use moving::within;
 use owner::Feeding;
 use turns::begin;

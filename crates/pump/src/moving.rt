@@ -56,7 +56,7 @@ pub fn part(s: &[u8], from: usize, to: usize) -> &[u8]
 }
 
 // The octets from a place to another are moved to the front; how many they are is answered.
-pub(crate) fn shift(buf: &mut [u8], from: usize, to: usize) -> usize
+pub fn shift(buf: &mut [u8], from: usize, to: usize) -> usize
     requires { ⌜ to ≤ length (now buf) ⌝ }
     ensures { λ r. ⌜ Shifted (now (buf .entry)) from to r (now (buf .exit)) ⌝ }
 {

@@ -4,6 +4,7 @@ use crate::moving::shift;
 use crate::moving::within;
 use capture::Next;
 use capture::header_fits;
+use capture::is_whole;
 use capture::next_record;
 use feed::Fed;
 use octets::put_octets;
@@ -15,7 +16,7 @@ ghost use mathlib.Core.List.{[]};
 ghost use lib.ListN.{length};
 ghost use lib.Seq.{sets};
 ghost use Rattle.text.specs.Text.{cut};
-ghost use Rattle.pump.specs.Pumping.{lastWords, atFront, cannotMend, isOver, isWaiting, fedOn, begunOn, headerRead, isReady};
+ghost use Rattle.pump.specs.Pumping.{lastWords, atFront, cannotMend, isOver, isWaiting, unfedTo, fedOn, begunOn, headerRead, isReady};
 
 // The table, before the first octet of the input and of the output.
 fn at_front(t: Feeding) -> Feeding
@@ -90,9 +91,19 @@ fn end(p: Pump, out: &mut [u8], left: bool) -> Pump
     finish(p, out, b"")
 }
 
-// As many records as are there and as many lines as fit; where there is none, how the text ends,
-// once that is known.
-pub fn feed_on(p: Pump, buf: &mut [u8], out: &mut [u8]) -> Pump
+// Nothing is fed: how the text ends, once that is known.
+fn unfed(p: Pump, buf: &[u8], out: &mut [u8]) -> Pump
+    ensures { λ r. ⌜ record { pump = r; buf = now (buf .entry); out = now (out .exit) } ≡ unfedTo p (now (buf .entry)) (now (out .entry)) ⌝ }
+{
+    let n = within(p.have, buf);
+    if is_over(p.closed, next_record(&buf[..n], 0)) {
+        return end(p, out, n > 0);
+    }
+    p
+}
+
+// As many records as are there and as many lines as fit.
+fn feed_some(p: Pump, buf: &mut [u8], out: &mut [u8]) -> Pump
     ensures { λ r. ⌜ record { pump = r; buf = now (buf .exit); out = now (out .exit) } ≡ fedOn p (now (buf .entry)) (now (out .entry)) ⌝ }
 {
     let n = within(p.have, buf);
@@ -111,10 +122,19 @@ pub fn feed_on(p: Pump, buf: &mut [u8], out: &mut [u8]) -> Pump
             over: false,
         };
     }
-    if is_over(p.closed, next_record(&buf[..n], 0)) {
-        return end(p, out, n > 0);
+    unfed(p, &*buf, out)
+}
+
+// Behind each write comes a turn, and mostly no whole record is left then: so the table is neither
+// copied nor asked for 26.
+pub fn feed_on(p: Pump, buf: &mut [u8], out: &mut [u8]) -> Pump
+    ensures { λ r. ⌜ record { pump = r; buf = now (buf .exit); out = now (out .exit) } ≡ fedOn p (now (buf .entry)) (now (out .entry)) ⌝ }
+{
+    let n = within(p.have, buf);
+    if is_whole(next_record(&buf[..n], 0)) {
+        return feed_some(p, buf, out);
     }
-    p
+    unfed(p, &*buf, out)
 }
 
 // The header is read.

@@ -73,7 +73,7 @@ done-rows t (Tick u) = refl
 done-rows t (Open g u) = length-set (t .row) _ _
 done-rows t (On l a) = act-rows t l a
 
-next-rows : (t : Table) (c : Call) → length (next t c .row) ≡ length (t .row)
+pub next-rows : (t : Table) (c : Call) → length (next t c .row) ≡ length (t .row)
 unfolding next
 next-rows t c = split (isAccepted (answer t c)) (λ e. rw e (done-rows t c)) (λ e. rw e)
 

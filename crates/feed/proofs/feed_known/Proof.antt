@@ -15,12 +15,12 @@ use denote.Triple.Spec.{tripleOf}
 use denote.Triple.Table.{entered, cited}
 use Rattle.table.specs.Table.{inOrder}
 use Rattle.step.specs.Stepping.{tableOf}
-use Rattle.row.proofs.Branches.{held-is}
+use Rattle.walks.proofs.Branches.{held-is}
 use Rattle.row.proofs.Plains.{Plain, boolP, sessionP}
 use Rattle.feed.specs.Feeding.{Flow, moreOf, turnOf, goOn, feedOf}
 use Rattle.feed.proofs.FedPlain.{fedP}
 use Rattle.feed.proofs.Turns.{more-says, turn-mark, stops, goes-on, begins}
-use Rattle.feed.proofs.FeedLoop as over
+use Rattle.walks.proofs.FeedLoop as over
 use Rattle.feed.proofs.records.more.Symbol as mo-def
 use Rattle.feed.proofs.records.more.Symbol.{name as #feed·more}
 use Rattle.feed.proofs.records.more.Met as mo-thm

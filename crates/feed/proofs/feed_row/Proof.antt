@@ -25,8 +25,8 @@ use Rattle.row.proofs.scan_row.Met as se-thm
 use Rattle.feed.specs.declared.Fed.{Fed}
 use Rattle.feed.specs.Feeding.{Flow, feedOf}
 use Rattle.feed.proofs.FedPlain.{fedP}
-use Rattle.feed.proofs.AskOnce as once
-use Rattle.feed.proofs.FeedLoop as loop
+use Rattle.walks.proofs.AskOnce as once
+use Rattle.walks.proofs.FeedLoop as loop
 use Rattle.feed.proofs.asking.head_of.Symbol as he-def
 use Rattle.feed.proofs.asking.head_of.Symbol.{name as #feed·head-of}
 use Rattle.feed.proofs.asking.head_of.Met as he-thm

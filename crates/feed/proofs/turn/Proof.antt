@@ -1,40 +1,26 @@
--- `feed::turn` meets its contract: it has the shape of `OneTurn.antt`, whose walk it cites.
+-- `feed::turn` meets its contract: it has the shape of `EitherTurn.antt`, whose walk it cites.
 -- Assumes nothing.
-use Prim.Native.Nat.{ℕ, _<_, _^_}
-use mathlib.Core.Path.{_≡_, sym, subst}
-use mathlib.Core.Bool.{Bool, true}
-use mathlib.Core.List.{List}
-use lib.Dec.{T as Holds}
-use lib.ListN.{length, drop}
-use Rattle.session.specs.declared.Session.{Session}
-use Rattle.table.specs.Table.{inOrder}
-use Rattle.step.specs.declared.Outcome.{Outcome}
-use Rattle.step.specs.Stepping.{tableOf}
-use Rattle.capture.specs.declared.Record.{Record}
-use Rattle.capture.specs.Records.{recordFrom}
-use Rattle.feed.specs.declared.Fed.{Fed}
-use Rattle.feed.specs.Feeding.{Flow, moreOf, turnOf}
-use Rattle.feed.specs.Calling.{Answered, answered, Calls}
-use Rattle.feed.proofs.Turns.{is-turn, turn-takes}
+use mathlib.Core.Path.{_≡_}
+use mathlib.Core.Bool.{true, false}
+use Rattle.feed.specs.Calling.{messageNext, Turns}
 use mir.Syntax.{Ty}
 use mir.Table.{spell}
 use contract.Running.{givenOf, tables, tablesOf}
 use denote.Memory.{pointee}
 use denote.Triple.Spec.{tripleOf}
 use denote.Triple.Table.{entered, cited}
-use Rattle.row.proofs.Plains.{Plain, sessionP, boolP, outcomeP}
+use Rattle.row.proofs.Plains.{Plain, sessionP, boolP}
 use Rattle.feed.proofs.FedPlain.{fedP}
-use Rattle.feed.proofs.RecordPlain.{recordP}
-use Rattle.feed.proofs.OneTurn as way
-use Rattle.feed.proofs.records.record_next.Symbol as k1-def
-use Rattle.feed.proofs.records.record_next.Symbol.{name as #feed·records·record-next}
-use Rattle.feed.proofs.records.record_next.Met as k1-thm
-use Rattle.feed.proofs.calls.call.Symbol as k2-def
-use Rattle.feed.proofs.calls.call.Symbol.{name as #feed·calls·call}
-use Rattle.feed.proofs.calls.call.Met as k2-thm
-use Rattle.feed.proofs.records.answer_line.Symbol as k3-def
-use Rattle.feed.proofs.records.answer_line.Symbol.{name as #feed·records·answer-line}
-use Rattle.feed.proofs.records.answer_line.Met as k3-thm
+use Rattle.walks.proofs.EitherTurn as way
+use Rattle.feed.proofs.records.brings_message.Symbol as k1-def
+use Rattle.feed.proofs.records.brings_message.Symbol.{name as #feed·records·brings-message}
+use Rattle.feed.proofs.records.brings_message.Met as k1-thm
+use Rattle.feed.proofs.message_turn.Symbol as k2-def
+use Rattle.feed.proofs.message_turn.Symbol.{name as #feed·message-turn}
+use Rattle.feed.proofs.message_turn.Met as k2-thm
+use Rattle.feed.proofs.other_turn.Symbol as k3-def
+use Rattle.feed.proofs.other_turn.Symbol.{name as #feed·other-turn}
+use Rattle.feed.proofs.other_turn.Met as k3-thm
 use Rattle.feed.proofs.turn.Key.{name as #feed·turn}
 use Rattle.feed.proofs.turn as f
 use Rattle.feed.proofs.turn.Statement as stated
@@ -45,31 +31,14 @@ use Rattle.feed.proofs.turn.Code.Mir as pieces
 abbrev spelled : Plain → Ty
 spelled p = spell pieces.table (pointee (p .T .written))
 
--- row, what is fed and output, as one
-abbrev flow : List Session → Fed → List ℕ → Flow
-flow row f out = record { row = row; fed = f; out = out }
-
--- what is fed and the output
-abbrev told : Fed → List ℕ → Answered
-told g out = record { fed = g; out = out }
-
--- what a turn says where a record stands next: it takes octets, and on a row of which it is known whether it is in order it is the definition's
-abbrev Turns : List Session → List ℕ → Bool → Fed → List ℕ → Fed → List Session → List ℕ → Type 0
-Turns ys out sound f m g zs ps = moreOf f m (length out) ≡ true → (f .used < g .used) × (sound ≡ inOrder (tableOf ys (f .head)) → flow zs g ps ≡ turnOf m (flow ys f out))
-
-pub said : (ys : List Session) (out : List ℕ) (sound : Bool) (f : Fed) (m : List ℕ) → length ys < 2 ^ 64 → length out < 2 ^ 64 → length m < 2 ^ 64 → (r : Record) → r ≡ recordFrom (drop (f .used) m)
-    → (o : Outcome) (zs : List Session) → Calls ys f r m sound o zs → length zs ≡ length ys → (g : Fed) (ps : List ℕ) → told g ps ≡ answered out f m r o → Turns ys out sound f m g zs ps
-said ys out sound f m long _ short r er o zs called _ g ps e more =
-    let h : Holds (moreOf f m (length out)) = subst (λ (t : Bool). Holds t) (sym more) tt in
-    (turn-takes m f out r er o g ps e h, λ mark. is-turn m ys f out sound r er o zs called g ps e mark h short long)
-
-abbrev laws : way.Turn sessionP boolP fedP recordP outcomeP
+abbrev laws : way.Either sessionP boolP fedP
 laws = record {
-  next = λ m f. recordFrom (drop (f .used) m);
-  Did = λ ys sound f r m o zs. Calls ys f r m sound o zs;
-  Wrote = λ out f m r o g ps. told g ps ≡ answered out f m r o;
+  test = messageNext;
+  Yes = λ ys out sound f m g zs ps. messageNext m f ≡ true → Turns ys out sound f m g zs ps;
+  No = λ ys out sound f m g zs ps. messageNext m f ≡ false → Turns ys out sound f m g zs ps;
   Said = Turns;
-  says = said;
+  says-yes = λ ys out sound f m k g zs ps say. say k;
+  says-no = λ ys out sound f m k g zs ps say. say k;
 }
 
 pub turn-spec : {M : Type 1} → stated.statement M
@@ -77,9 +46,9 @@ unfolding code.routine tablesOf
 turn-spec 𝓤 H 𝓜 𝓖 𝓡 =
     entered 𝓤 H (tripleOf 𝓤 H (𝓖 .A) f.signature (f.spec 𝓤 H (𝓖 .A) (𝓜 .mem) (𝓡 .run)))
     (tables 𝓤 H 𝓜 𝓡 code.env .C) (tables 𝓤 H 𝓜 𝓡 code.env .Λ) #feed·turn code.function (code.unfolded 𝓤 H 𝓜 𝓡)
-    (way.meets sessionP boolP fedP recordP outcomeP laws (spelled fedP) (spelled boolP) (spelled recordP) (spelled outcomeP) (spelled sessionP)
-    (fedP .typed 𝓤 H (𝓖 .A) (givenOf 𝓤 H 𝓜 𝓖)) (boolP .typed 𝓤 H (𝓖 .A) (givenOf 𝓤 H 𝓜 𝓖)) (recordP .typed 𝓤 H (𝓖 .A) (givenOf 𝓤 H 𝓜 𝓖)) (outcomeP .typed 𝓤 H (𝓖 .A) (givenOf 𝓤 H 𝓜 𝓖))
-    #feed·records·record-next #feed·calls·call #feed·records·answer-line 𝓤 H (𝓖 .A) (givenOf 𝓤 H 𝓜 𝓖) (tablesOf 𝓤 H 𝓜 (tables 𝓤 H 𝓜 𝓡 code.env))
-    (cited 𝓤 H (way.Next sessionP boolP fedP recordP outcomeP laws 𝓤 H (𝓖 .A)) 𝓜 𝓡 code.env #feed·records·record-next k1-def.routine code.calls-feed·records·record-next (k1-thm.met 𝓤 H 𝓜 𝓖 𝓡))
-    (cited 𝓤 H (way.Call sessionP boolP fedP recordP outcomeP laws 𝓤 H (𝓖 .A)) 𝓜 𝓡 code.env #feed·calls·call k2-def.routine code.calls-feed·calls·call (k2-thm.met 𝓤 H 𝓜 𝓖 𝓡))
-    (cited 𝓤 H (way.Line sessionP boolP fedP recordP outcomeP laws 𝓤 H (𝓖 .A)) 𝓜 𝓡 code.env #feed·records·answer-line k3-def.routine code.calls-feed·records·answer-line (k3-thm.met 𝓤 H 𝓜 𝓖 𝓡)))
+    (way.meets sessionP boolP fedP laws (spelled fedP) (spelled boolP) (spelled sessionP)
+    (fedP .typed 𝓤 H (𝓖 .A) (givenOf 𝓤 H 𝓜 𝓖)) (boolP .typed 𝓤 H (𝓖 .A) (givenOf 𝓤 H 𝓜 𝓖))
+    #feed·records·brings-message #feed·message-turn #feed·other-turn 𝓤 H (𝓖 .A) (givenOf 𝓤 H 𝓜 𝓖) (tablesOf 𝓤 H 𝓜 (tables 𝓤 H 𝓜 𝓡 code.env))
+    (cited 𝓤 H (way.Test sessionP boolP fedP laws 𝓤 H (𝓖 .A)) 𝓜 𝓡 code.env #feed·records·brings-message k1-def.routine code.calls-feed·records·brings-message (k1-thm.met 𝓤 H 𝓜 𝓖 𝓡))
+    (cited 𝓤 H (way.Way sessionP boolP fedP 𝓤 H (𝓖 .A) (laws .Yes)) 𝓜 𝓡 code.env #feed·message-turn k2-def.routine code.calls-feed·message-turn (k2-thm.met 𝓤 H 𝓜 𝓖 𝓡))
+    (cited 𝓤 H (way.Way sessionP boolP fedP 𝓤 H (𝓖 .A) (laws .No)) 𝓜 𝓡 code.env #feed·other-turn k3-def.routine code.calls-feed·other-turn (k3-thm.met 𝓤 H 𝓜 𝓖 𝓡)))

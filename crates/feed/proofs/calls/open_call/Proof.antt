@@ -26,7 +26,7 @@ use denote.Triple.Table.{entered, cited}
 use Rattle.row.proofs.Plains.{Plain, sessionP, boolP, openingP, u64P, u32P, summaryP, headP, outcomeP}
 use Rattle.feed.proofs.FedPlain.{fedP}
 use Rattle.feed.proofs.RecordPlain.{recordP}
-use Rattle.feed.proofs.OpenWay as way
+use Rattle.walks.proofs.OpenWay as way
 use Rattle.feed.proofs.asking.opening_in.Symbol as k1-def
 use Rattle.feed.proofs.asking.opening_in.Symbol.{name as #feed·asking·opening-in}
 use Rattle.feed.proofs.asking.opening_in.Met as k1-thm
