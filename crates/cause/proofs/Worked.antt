@@ -1,0 +1,40 @@
+-- The worked questions, by computation.
+-- Assumes nothing.
+use mathlib.Core.Path.{refl}
+use Rattle.gach.specs.Header.{headerRefusal, channelRefusal}
+use Rattle.gach.specs.Kinds.{kindRefusal}
+use Rattle.bfd.specs.Packet.{packetOf}
+use Rattle.bfd.specs.Reception.{ruleRefusal, yourRefusal, controlRefusal, ccRefusal}
+use Rattle.bfd.specs.Octets.{packetOctets}
+use Rattle.cv.specs.Forms.{valueLength, lengthFits, agiFits, formRefusal, agiRefusal, mepRefusal, mepFits}
+use Rattle.cv.specs.MepId.{headOctets, agiOctets, mepOctets, sameMepId}
+use Rattle.cv.specs.Cv.{cvRefusal, mepPart}
+use Rattle.fault.specs.Tlvs.{repeated, rightLength, badOctet, withTlv, tlvsOf}
+use Rattle.fault.specs.Message.{rangeRefusal, headRefusal, refusalWith, faultRefusal, fieldsWith, faultOf}
+use Rattle.fault.specs.Octets.{faultOctets}
+use Rattle.message.specs.Message.{messageRefusal, messageOf}
+use Rattle.rules.specs.Times.{late, past, within}
+use Rattle.rules.specs.Settings.{settingsFit}
+use Rattle.rules.specs.Lists.{any, only, once, without}
+use Rattle.rules.specs.Received.{receivedAs}
+use Rattle.rules.specs.Conditions.{sameIfId, sameGlobalId, sameKey, followsWith}
+use Rattle.capture.specs.Records.{headerFits, recordIn, nextIn, settingsIn, callOf, callIn}
+use Rattle.text.specs.Text.{parsedBy, parsed}
+use Rattle.meaning.specs.Stories.{settingsOf}
+use Rattle.meaning.specs.Standing.{locked, crossing, timedFrom, multiplierOf, loss, state, stateAt, remoteDiagnostic, remoteOf, owed, stands, followedLast, keysOf, conditions, followed, held, report, diagnostic}
+use Rattle.meaning.specs.Histories.{clockOf, story, labels}
+use Rattle.meaning.specs.Answers.{rival, openNumber, actSaid, saysOf, says}
+use Rattle.meaning.specs.Accounts.{size}
+use Rattle.meaning.specs.Edges.{told-all}
+use Rattle.cause.specs.Marks.{lastMark}
+use Rattle.cause.specs.Causes.{lastEnding, causeOf, reasonOf}
+use Rattle.cause.specs.Pasts.{pastOf, pastUpTo}
+use Rattle.cause.specs.Worked.{answerTo, reasonTo, Hold, questions, answerOf, Told, captures}
+
+pub questions-hold : Hold questions
+unfolding Hold questions answerTo reasonTo causeOf reasonOf lastEnding lastMark size told-all says saysOf actSaid openNumber rival clockOf story labels late past within settingsFit any only once without receivedAs sameIfId sameGlobalId sameKey followsWith headerRefusal channelRefusal kindRefusal packetOf ruleRefusal yourRefusal controlRefusal ccRefusal packetOctets valueLength lengthFits agiFits formRefusal agiRefusal mepRefusal mepFits headOctets agiOctets mepOctets sameMepId cvRefusal mepPart repeated rightLength badOctet withTlv tlvsOf rangeRefusal headRefusal refusalWith faultRefusal fieldsWith faultOf faultOctets messageRefusal messageOf settingsOf locked crossing timedFrom multiplierOf loss state stateAt remoteDiagnostic remoteOf owed stands followedLast keysOf conditions followed held report diagnostic
+questions-hold = (refl, refl, (refl, refl, (refl, refl, (refl, refl, (refl, refl, (refl, refl, (refl, refl, (refl, refl, (refl, refl, (refl, refl, (refl, refl, (refl, refl, (refl, refl, (refl, refl, (refl, refl, (refl, refl, (refl, refl, (refl, refl, (refl, refl, (refl, refl, (refl, refl, (refl, refl, (refl, refl, (refl, refl, (refl, refl, tt)))))))))))))))))))))))))
+
+pub captures-told : Told captures
+unfolding Told captures answerOf pastOf pastUpTo headerFits recordIn nextIn settingsIn callOf callIn parsedBy parsed causeOf lastMark size told-all says saysOf actSaid openNumber rival clockOf story labels late past within settingsFit valueLength lengthFits agiFits mepFits any without settingsOf locked crossing timedFrom multiplierOf loss state stateAt remoteDiagnostic stands keysOf conditions only followed held report
+captures-told = (refl, (refl, (refl, (refl, (refl, (refl, (refl, (refl, tt))))))))

@@ -1,0 +1,9 @@
+pub mod Marks
+pub mod Causes
+pub mod Reasons
+pub mod Pasts
+pub mod Noting
+pub mod Records
+pub mod FromMarks
+pub mod Tracing
+pub mod Worked
