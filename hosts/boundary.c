@@ -1,8 +1,8 @@
 /*
  * What crosses between a host and the library, held to this header from outside: the version, every
- * field of a record and of a message at its place, where each reader says that a message went wrong,
- * each mark and each number that a writer must refuse, MEP-IDs of every form, and rows of another length
- * lent to each call.
+ * field of a record and of a message at its place, why a session is as it is, where each reader says that
+ * a message went wrong, each mark and each number that a writer must refuse, MEP-IDs of every form, and
+ * rows of another length lent to each call.
  * hosts/run compares what is printed with hosts/timeline-boundary.
  */
 #include <inttypes.h>
@@ -20,7 +20,7 @@ static void need(int holds, const char *what) {
 }
 
 static void check_version(void) {
-    need(KORVEZUL_VERSION == 0x040000, "version of the header");
+    need(KORVEZUL_VERSION == 0x040100, "version of the header");
     need(korvezul_version() == KORVEZUL_VERSION, "version of the library");
     printf("version %d.%d.%d: header and library agree\n", KORVEZUL_VERSION_MAJOR, KORVEZUL_VERSION_MINOR,
            KORVEZUL_VERSION_PATCH);
@@ -86,6 +86,43 @@ static void check_taken(struct korvezul_fault f) {
     need(c[1].key.kind == 0 && c[3].key.kind == 0, "empty conditions");
 }
 
+/* What a label is asked, and what it answers. */
+static struct korvezul_cause asked(uint8_t thing, struct korvezul_key key) {
+    struct korvezul_question q;
+    memset(&q, 0xa5, sizeof q);
+    q.label = told.label;
+    q.key = key;
+    q.thing = thing;
+    return korvezul_why(row, KORVEZUL_RECORDS, &head, q);
+}
+
+static void answers(uint8_t thing, struct korvezul_key key, uint64_t reading, uint64_t end) {
+    struct korvezul_cause c = asked(thing, key);
+    need(c.answer == 0 && c.reading == reading && c.age == head.clock - reading && c.end == end,
+         "answer, reading, age, end");
+    need(c.head.clock == head.clock && c.head.occupied == head.occupied, "head beside a cause");
+}
+
+/* Each thing of that session, and a number that is none. A loss stood from five periods and 1 behind the
+ * CC. */
+static void check_why(void) {
+    static struct korvezul_session before[KORVEZUL_RECORDS];
+    const struct korvezul_key key = row[0].conditions[0].key, none = {0, 0, 0, 0, 0, 0};
+    const uint64_t lost = 0x010204 + 5 * (uint64_t)told.period + 1;
+    struct korvezul_cause c;
+    answers(KORVEZUL_A_CROSSING, none, 0x010206, 0x010206 + 3500000);
+    need(asked(KORVEZUL_A_LOSS, none).answer == KORVEZUL_NOT_SO, "no loss yet");
+    need(korvezul_tick(row, KORVEZUL_RECORDS, &head, lost) == 0, "tick");
+    memcpy(before, row, sizeof row);
+    answers(KORVEZUL_A_LOSS, none, 0x010204, lost);
+    answers(KORVEZUL_HELD_BACK, none, 0x010205, 0x010205 + 70000000);
+    answers(KORVEZUL_A_CONDITION, key, 0x010205, 0x010205 + 70000000);
+    c = asked(5, key);
+    need(c.answer == KORVEZUL_NOT_SO && c.reading == 0 && c.age == 0 && c.end == 0, "noughts beside a refusal");
+    need(memcmp(before, row, sizeof row) == 0, "a question changes nothing");
+    printf("a crossing, a loss, an alarm held back and a condition: reading, age and end\n");
+}
+
 static void check_layout(void) {
     struct korvezul_packet p = {.my = 0x61626364, .diagnostic = 9, .state = 1, .multiplier = 5, .poll = 1};
     struct korvezul_fault f = {0x71727374, 0x75767778, 0x797a7b7c, 2, 1, 0, 20, 1, 1};
@@ -99,6 +136,7 @@ static void check_layout(void) {
          "crossed CC taken");
     need(row[0].crossed == 0x010206 && row[0].crossing == 1, "crossed, crossing");
     printf("every field of a record is where the header has it\n");
+    check_why();
 }
 
 /* Every field of a message, told apart by the octets that it becomes, and read back from them. */
@@ -408,7 +446,8 @@ static void absent(void) {
     behind("Global_ID", &fault.global, &fault.has_global_id);
 }
 
-/* The ten calls, each accepted on the table of `kept`, a session of label 100 and its CC. */
+/* The calls on a table, each accepted on that of `kept`: a session of label 100 that is crossed, and its
+ * CC. */
 struct table {
     struct korvezul_session row[KORVEZUL_RECORDS + 1];
     struct korvezul_head head;
@@ -433,6 +472,10 @@ static uint32_t lock(size_t n) { return korvezul_lock(LENT(n), 100, 1); }
 static uint32_t unlock(size_t n) { return korvezul_unlock(LENT(n), 100, 1); }
 static uint32_t receive(size_t n) { return korvezul_receive(LENT(n), 100, message, sizeof message, 1); }
 static uint32_t report(size_t n) { return korvezul_report(LENT(n), 100).answer; }
+static uint32_t why(size_t n) {
+    static const struct korvezul_question crossing = {.label = 100, .thing = KORVEZUL_A_CROSSING};
+    return korvezul_why(LENT(n), crossing).answer;
+}
 static uint32_t write_cc(size_t n) {
     return korvezul_write_cc(LENT(n), 100, lent.buffer, sizeof lent.buffer);
 }
@@ -445,7 +488,7 @@ static const struct {
     uint32_t (*call)(size_t);
 } calls[] = {{"empty", empty},       {"tick", tick},        {"open", open_other}, {"close", close_it},
              {"lock", lock},         {"unlock", unlock},    {"receive", receive}, {"report", report},
-             {"write CC", write_cc}, {"write CV", write_cv}};
+             {"write CC", write_cc}, {"write CV", write_cv}, {"why", why}};
 
 static void prepare(void) {
     struct korvezul_settings s = other;
@@ -454,6 +497,10 @@ static void prepare(void) {
     memset(&kept, 0xa5, sizeof kept);
     need(korvezul_empty(kept.row, KORVEZUL_RECORDS, &kept.head) == 0, "empty");
     need(korvezul_open(kept.row, KORVEZUL_RECORDS, &kept.head, s, 0) == 0, "open");
+    packet.your = s.discriminator + 1;
+    need(korvezul_write_cc_message(message, sizeof message, packet) == 0, "crossed CC");
+    need(korvezul_receive(kept.row, KORVEZUL_RECORDS, &kept.head, 100, message, sizeof message, 0) == 0,
+         "crossed CC taken");
     packet.your = s.discriminator;
     need(korvezul_write_cc_message(message, sizeof message, packet) == 0, "CC");
 }

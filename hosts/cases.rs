@@ -73,14 +73,15 @@ impl<'a> Words<'a> {
     }
 }
 
-/// A number, 0x for hex, or a name of a state, a type or flags.
+/// A number, 0x for hex, or a name of a state, a type, flags or a thing that is asked about.
 fn number_of<N: TryFrom<u64>>(word: &str) -> Result<N, String> {
     let digits = word.replace('_', "");
     let number = match word {
         "admin" => Ok(0),
-        "down" | "ais" | "f" | "r" => Ok(1),
-        "init" | "lkr" | "p" | "l" => Ok(2),
-        "up" | "pf" | "lr" => Ok(3),
+        "down" | "ais" | "f" | "r" | "crossing" => Ok(1),
+        "init" | "lkr" | "p" | "l" | "loss" => Ok(2),
+        "up" | "pf" | "lr" | "held-back" => Ok(3),
+        "condition" => Ok(4),
         _ => digits.strip_prefix("0x").map_or_else(|| digits.parse(), |hex| u64::from_str_radix(hex, 16)),
     };
     let number = number.map_err(|_| format!("no number: {word}"))?;
@@ -240,6 +241,26 @@ fn reported(t: &mut Table, label: u32) -> Result<(u32, String), String> {
     }
 }
 
+/// Reading, age and end of what is asked about; noughts where it is refused. It changes nothing.
+fn why(t: &mut Table, w: &mut Words) -> Result<(u32, String), String> {
+    let (label, thing) = (w.number()?, w.number()?);
+    let (kind, present) = (w.number_or_0()?, w.number_or_0()?);
+    let (node, interface) = (w.number_or_0()?, w.number_or_0()?);
+    let (carrier, global) = (w.number_or_0()?, w.number_or_0()?);
+    let key = Key { node, interface, global, kind, present, carrier };
+    let before = t.clone();
+    let c = t.why(Question { label, key, thing });
+    if *t != before || c.head != t.head {
+        return Err("a question changed the table".to_string());
+    }
+    let told = [c.reading, c.age, c.end];
+    match c.answer {
+        0 => Ok((0, numbers(&told))),
+        _ if told == [0; 3] => Ok((c.answer, String::new())),
+        _ => Err(format!("refused with {}, and yet {}", c.answer, numbers(&told))),
+    }
+}
+
 /// The own end point of a label's session.
 fn own_of(t: &Table, label: u32) -> MepId {
     let open = (0..RECORDS).filter(|i| t.head.occupied >> i & 1 == 1).map(|i| t.row[i].settings);
@@ -368,6 +389,7 @@ fn table_line(t: &mut Table, word: &str, w: &mut Words) -> Shown {
             (called(t, |t| t.tick(reading))?, String::new())
         }
         "report" => reported(t, w.number()?)?,
+        "why" => why(t, w)?,
         "write-cc" | "write-cv" => written(t, word, w.number()?, w.number()?)?,
         "close" | "lock" | "unlock" | "cc" | "cv" | "fault" | "octets" => return call_line(t, word, w),
         _ => return Err(format!("no such word: {word}")),

@@ -106,6 +106,11 @@ static uint32_t receive_cc(void) { return korvezul_receive(TABLE, last, cc, size
 static uint32_t receive_cv(void) { return korvezul_receive(TABLE, last, cv, cv_octets, now); }
 static uint32_t receive_fault(void) { return korvezul_receive(TABLE, last, ais, sizeof ais, now); }
 static uint32_t report(void) { return korvezul_report(TABLE, last).answer; }
+static uint32_t why(void) { /* the last of four conditions; in the usual state none stands */
+    struct korvezul_question q = {last, {1, 3, 0, 1, 1, 0}, KORVEZUL_A_CONDITION};
+    uint32_t n = korvezul_why(TABLE, q).answer;
+    return !worst && n == KORVEZUL_NOT_SO ? KORVEZUL_ACCEPTED : n;
+}
 static uint32_t cc_of_session(void) { return korvezul_write_cc(TABLE, last, buffer, sizeof buffer); }
 static uint32_t cv_of_session(void) { return korvezul_write_cv(TABLE, last, buffer, sizeof buffer); }
 static uint32_t read_cc(void) { return korvezul_read_cc(cc, sizeof cc).answer; }
@@ -132,6 +137,7 @@ static const struct {
              {"receive-cv", receive_cv},
              {"receive-fault", receive_fault},
              {"report", report},
+             {"why", why},
              {"write-cc", cc_of_session},
              {"write-cv", cv_of_session},
              {"read-cc", read_cc},

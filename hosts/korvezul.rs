@@ -4,8 +4,8 @@
 use std::mem::{align_of, offset_of, size_of};
 
 pub const RECORDS: usize = 64;
-/// The version of the header that these declarations follow, 4.0.0.
-pub const VERSION: u32 = 0x040000;
+/// The version of the header that these declarations follow, 4.1.0.
+pub const VERSION: u32 = 0x040100;
 /// The longest plain CV.
 pub const CV_OCTETS: usize = 78;
 
@@ -96,6 +96,25 @@ pub struct ReportAnswer {
     pub conditions: u8,
 }
 
+/// What is asked about: 1 a crossing, 2 a loss, 3 an alarm held back, 4 the condition of the key.
+#[repr(C)]
+#[derive(Clone, Copy, Debug, Default, PartialEq)]
+pub struct Question {
+    pub label: u32,
+    pub key: Key,
+    pub thing: u8,
+}
+
+#[repr(C)]
+#[derive(Clone, Copy, Debug, Default, PartialEq)]
+pub struct Cause {
+    pub head: Head,
+    pub reading: u64,
+    pub age: u64,
+    pub end: u64,
+    pub answer: u32,
+}
+
 #[repr(C)]
 #[derive(Clone, Copy, Debug, Default, PartialEq)]
 pub struct Packet {
@@ -169,6 +188,8 @@ const _: () = {
     assert!(offset_of!(CcRead, answer) == 8 && offset_of!(CcRead, packet) == 12 && offset_of!(FaultRead, fault) == 12);
     assert!(offset_of!(CvRead, part) == 12 && offset_of!(CvRead, packet) == 20 && offset_of!(CvRead, mep) == 48);
     assert!(size_of::<MepIdRead>() == 56 && offset_of!(MepIdRead, mep) == 8);
+    assert!(size_of::<Question>() == 24 && offset_of!(Question, key) == 4 && offset_of!(Question, thing) == 20);
+    assert!(size_of::<Cause>() == 48 && offset_of!(Cause, reading) == 16 && offset_of!(Cause, answer) == 40);
 };
 
 extern "C" {
@@ -189,6 +210,7 @@ extern "C" {
     ) -> u32;
     pub fn korvezul_tick(row: *mut Session, records: usize, head: *mut Head, reading: u64) -> u32;
     pub fn korvezul_report(row: *mut Session, records: usize, head: *mut Head, label: u32) -> ReportAnswer;
+    pub fn korvezul_why(row: *mut Session, records: usize, head: *mut Head, question: Question) -> Cause;
     pub fn korvezul_write_cc(
         row: *mut Session,
         records: usize,
@@ -260,6 +282,9 @@ impl Table {
     pub fn report(&mut self, label: u32) -> ReportAnswer {
         unsafe { korvezul_report(self.row.as_mut_ptr(), RECORDS, &mut self.head, label) }
     }
+    pub fn why(&mut self, question: Question) -> Cause {
+        unsafe { korvezul_why(self.row.as_mut_ptr(), RECORDS, &mut self.head, question) }
+    }
     pub fn write_cc(&mut self, label: u32, buffer: &mut [u8]) -> u32 {
         unsafe {
             korvezul_write_cc(self.row.as_mut_ptr(), RECORDS, &mut self.head, label, buffer.as_mut_ptr(), buffer.len())
@@ -319,6 +344,7 @@ pub fn answer_name(answer: u32) -> &'static str {
         12 => "table full",
         13 => "buffer too short",
         14 => "session locked",
+        15 => "does not stand",
         26 => "not a table",
         _ => "unknown",
     }

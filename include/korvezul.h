@@ -11,7 +11,7 @@
  * is never null and is aligned for its type, also beside a length of 0.
  *
  * Time. A reading is the host's clock in microseconds. It may not run backwards (answer 1) and is
- * at most 9,223,372,036,854,775,807. Report and write speak at the reading of the last accepted
+ * at most 9,223,372,036,854,775,807. Report, why and write speak at the reading of the last accepted
  * call that brought one: tick first to have them speak of now.
  *
  * Answers. 0 is accepted. Anything else is a refusal, and then no byte of row, head or buffer has
@@ -29,10 +29,10 @@
 extern "C" {
 #endif
 
-/* The version of this header: 0x040000 is 4.0.0. korvezul_version() is the archive's; another major
+/* The version of this header: 0x040100 is 4.1.0. korvezul_version() is the archive's; another major
  * number is another layout or another meaning, and the two must agree in it. */
 #define KORVEZUL_VERSION_MAJOR 4
-#define KORVEZUL_VERSION_MINOR 0
+#define KORVEZUL_VERSION_MINOR 1
 #define KORVEZUL_VERSION_PATCH 0
 #define KORVEZUL_VERSION \
     (KORVEZUL_VERSION_MAJOR * 0x10000 + KORVEZUL_VERSION_MINOR * 0x100 + KORVEZUL_VERSION_PATCH)
@@ -60,6 +60,7 @@ enum korvezul_answer {
     KORVEZUL_FULL = 12,       /* all 64 places are open */
     KORVEZUL_BUFFER = 13,     /* the lent buffer is too short */
     KORVEZUL_LOCKED = 14,     /* a BFD message for a locked session */
+    KORVEZUL_NOT_SO = 15,     /* what is asked about does not stand */
     KORVEZUL_TABLE = 26       /* not 64 records, or an open record that no call can have left */
 };
 
@@ -164,6 +165,35 @@ struct korvezul_report_answer {
     uint8_t rdi;
     uint8_t blocked;
     uint8_t conditions;
+};
+
+/* What korvezul_why is asked about. */
+enum korvezul_thing {
+    KORVEZUL_A_CROSSING = 1,
+    KORVEZUL_A_LOSS = 2,
+    KORVEZUL_HELD_BACK = 3,   /* an alarm held back: a loss while conditions stand */
+    KORVEZUL_A_CONDITION = 4  /* the condition of the key */
+};
+
+/* A question: a label and a thing, and beside KORVEZUL_A_CONDITION the key of the condition. The key is
+ * nobody's otherwise. A number that is no thing stands for nothing: 15. */
+struct korvezul_question {
+    uint32_t label;
+    struct korvezul_key key;
+    uint8_t thing;
+};
+
+/* Why it is so: clock and set as they are; of the message that accounts for the thing the reading and
+ * the age at the clock; and the end, the first reading at which the thing no longer stands if nothing
+ * more arrives, of a loss the first at which it stood. A loss is timed from an opening, an unlock or a
+ * heard message. An alarm is held back by the condition that ends last, of equal ends by the later
+ * message. Beside a refusal the three are noughts. */
+struct korvezul_cause {
+    struct korvezul_head head;
+    uint64_t reading;
+    uint64_t age;
+    uint64_t end;
+    uint32_t answer;
 };
 
 /* The fields of a BFD control packet; intervals in microseconds; P, F, C and D are 0 or 1. */
@@ -277,6 +307,10 @@ uint32_t korvezul_tick(struct korvezul_session *row, size_t records, struct korv
 struct korvezul_report_answer korvezul_report(struct korvezul_session *row, size_t records,
                                               struct korvezul_head *head, uint32_t label);
 
+/* Why a label shows what it shows, at the clock. Nothing changes. 26, 2, 15. */
+struct korvezul_cause korvezul_why(struct korvezul_session *row, size_t records, struct korvezul_head *head,
+                                   struct korvezul_question question);
+
 /* Writes the CC (28 octets) or the CV (44; 46 and the AGI's octets, up to 78, where the own MEP-ID is a
  * pseudowire's) that the session of a label is to send, at the clock, to the front of a buffer of `size`
  * octets; what lies behind is not touched. Where the host does not keep how long its CVs are,
@@ -386,6 +420,20 @@ KORVEZUL_PLACE(report_answer, alarm, 7);
 KORVEZUL_PLACE(report_answer, rdi, 8);
 KORVEZUL_PLACE(report_answer, blocked, 9);
 KORVEZUL_PLACE(report_answer, conditions, 10);
+
+KORVEZUL_SIZE(question, 24);
+KORVEZUL_ALIGNED(question, 4);
+KORVEZUL_PLACE(question, label, 0);
+KORVEZUL_PLACE(question, key, 4);
+KORVEZUL_PLACE(question, thing, 20);
+
+KORVEZUL_SIZE(cause, 48);
+KORVEZUL_ALIGNED(cause, 8);
+KORVEZUL_PLACE(cause, head, 0);
+KORVEZUL_PLACE(cause, reading, 16);
+KORVEZUL_PLACE(cause, age, 24);
+KORVEZUL_PLACE(cause, end, 32);
+KORVEZUL_PLACE(cause, answer, 40);
 
 KORVEZUL_SIZE(packet, 28);
 KORVEZUL_ALIGNED(packet, 4);

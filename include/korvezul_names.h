@@ -24,6 +24,7 @@ static inline const char *korvezul_answer_name(uint32_t answer) {
     case KORVEZUL_FULL: return "table full";
     case KORVEZUL_BUFFER: return "buffer too short";
     case KORVEZUL_LOCKED: return "session locked";
+    case KORVEZUL_NOT_SO: return "does not stand";
     case KORVEZUL_TABLE: return "not a table";
     default: return "unknown";
     }

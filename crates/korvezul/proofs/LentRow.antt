@@ -18,7 +18,7 @@ use Rattle.step.proofs.Outcome as Outcome′
 use Rattle.step.proofs.Outcome.Laws as Outcome″
 use Rattle.step.proofs.Told.Laws as Told″
 use Rattle.row.proofs.Plains.{Plain, headP, targetP, summaryP, outcomeP, sessionP, at-v}
-use Rattle.korvezul.proofs.LentCall.{Call}
+use Rattle.walks.proofs.LentCall.{Call}
 
 -- what whoever holds an outcome knows of its head
 pub head-is : (u : Outcome) (vs : List Val) → Is (outcomeP .T) u vs → Is (headP .T) (u .head) (headP .v (u .head) ∷ [])

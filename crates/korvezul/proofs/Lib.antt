@@ -1,15 +1,11 @@
 pub mod OneStep
 pub mod Promised
 pub mod Fold
-pub mod LentValue
-pub mod LentCall
+pub mod WhyRun
 pub mod LentRow
-pub mod LentReceive
 pub mod CallPlains
 pub mod ThinEnd
 pub mod ThinCall
 pub mod ThinAsk
 pub mod ThinWrite
-pub mod Messages
-pub mod OnTheLine
 pub mod Places

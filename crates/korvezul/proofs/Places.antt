@@ -15,13 +15,15 @@ use Rattle.conditions.proofs.Conditions.Laws.{mir as conditions}
 use Rattle.session.proofs.Peer.Laws.{mir as peer}
 use Rattle.session.proofs.Session.Laws.{mir as session}
 use Rattle.table.proofs.Head.Laws.{mir as head}
+use Rattle.live.proofs.LiveQuestion.Laws.{mir as question}
+use Rattle.live.proofs.LiveCause.Laws.{mir as cause}
 use Rattle.korvezul.proofs.ReportAnswer.Laws.{mir as report}
-use Rattle.korvezul.proofs.fields.PacketFields.Laws.{mir as packet}
-use Rattle.korvezul.proofs.fields.FaultFields.Laws.{mir as fault}
-use Rattle.korvezul.proofs.readers.CcRead.Laws.{mir as cc-read}
-use Rattle.korvezul.proofs.readers.CvRead.Laws.{mir as cv-read}
-use Rattle.korvezul.proofs.readers.MepIdRead.Laws.{mir as mep-id-read}
-use Rattle.korvezul.proofs.readers.FaultRead.Laws.{mir as fault-read}
+use Rattle.fields.proofs.fields.PacketFields.Laws.{mir as packet}
+use Rattle.fields.proofs.fields.FaultFields.Laws.{mir as fault}
+use Rattle.fields.proofs.readers.CcRead.Laws.{mir as cc-read}
+use Rattle.fields.proofs.readers.CvRead.Laws.{mir as cv-read}
+use Rattle.fields.proofs.readers.MepIdRead.Laws.{mir as mep-id-read}
+use Rattle.fields.proofs.readers.FaultRead.Laws.{mir as fault-read}
 
 -- a field that begins there
 abbrev begins : Option (Ty × ℕ) → ℕ → Type 0
@@ -68,6 +70,12 @@ head-laid = record { octets = refl; aligned = refl; fields = (refl, (refl, refl)
 
 pub report-laid : Laid report 12 4 (0 ∷ 4 ∷ 5 ∷ 6 ∷ 7 ∷ 8 ∷ 9 ∷ 10 ∷ [])
 report-laid = record { octets = refl; aligned = refl; fields = (refl, (refl, (refl, (refl, (refl, (refl, (refl, (refl, refl)))))))) }
+
+pub question-laid : Laid question 24 4 (0 ∷ 4 ∷ 20 ∷ [])
+question-laid = record { octets = refl; aligned = refl; fields = (refl, (refl, (refl, refl))) }
+
+pub cause-laid : Laid cause 48 8 (0 ∷ 16 ∷ 24 ∷ 32 ∷ 40 ∷ [])
+cause-laid = record { octets = refl; aligned = refl; fields = (refl, (refl, (refl, (refl, (refl, refl))))) }
 
 pub packet-laid : Laid packet 28 4 (0 ∷ 4 ∷ 8 ∷ 12 ∷ 16 ∷ 20 ∷ 21 ∷ 22 ∷ 23 ∷ 24 ∷ 25 ∷ 26 ∷ [])
 packet-laid = record { octets = refl; aligned = refl; fields = (refl, (refl, (refl, (refl, (refl, (refl, (refl, (refl, (refl, (refl, (refl, (refl, refl)))))))))))) }

@@ -37,14 +37,14 @@ use Rattle.table.specs.declared.Head.{Head}
 use Rattle.step.specs.declared.Outcome.{Outcome}
 use Rattle.step.specs.Saying.{saidOf, Steps}
 use Rattle.step.specs.Stepping.{tableOf, Obeyed}
-use Rattle.row.proofs.LentSlice.{slice}
+use Rattle.walks.proofs.LentSlice.{slice}
 use Rattle.row.proofs.RecordOfRow.{RowRecord}
-use Rattle.row.proofs.Callee.{callee-answers}
-use Rattle.row.proofs.Locals.{frees-stored}
-use Rattle.row.proofs.ByWalk.{meets-by-walk}
+use Rattle.walks.proofs.Callee.{callee-answers}
+use Rattle.walks.proofs.Locals.{frees-stored}
+use Rattle.walks.proofs.ByWalk.{meets-by-walk}
 use Rattle.row.proofs.Plains.{Plain, headP, outcomeP}
 use Rattle.korvezul.specs.Calling.{called}
-use Rattle.korvezul.proofs.LentValue.{reference}
+use Rattle.walks.proofs.LentValue.{reference}
 use Rattle.korvezul.proofs.ThinEnd.{spelled, Spelled, ending, rowTy, headTy, atTy, rowOnTy, headOnTy, OnRow, Answers, ends}
 
 -- ---- the maker: its signature, and its contract

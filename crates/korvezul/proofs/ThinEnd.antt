@@ -37,14 +37,14 @@ use Rattle.table.specs.declared.Head.{Head}
 use Rattle.step.specs.declared.Outcome.{Outcome}
 use Rattle.step.specs.Saying.{saidOf, Steps}
 use Rattle.step.specs.Stepping.{tableOf, Obeyed}
-use Rattle.row.proofs.LentSlice.{slice, Mutable}
+use Rattle.walks.proofs.LentSlice.{slice, Mutable}
 use Rattle.row.proofs.RecordOfRow.{RowRecord}
-use Rattle.row.proofs.Callee.{callee-answers}
-use Rattle.row.proofs.Locals.{frees-stored}
+use Rattle.walks.proofs.Callee.{callee-answers}
+use Rattle.walks.proofs.Locals.{frees-stored}
 use Rattle.row.proofs.Plains.{Plain, headP, outcomeP}
 use Rattle.korvezul.specs.Calling.{called}
 use Rattle.korvezul.proofs.OneStep.{one-step}
-use Rattle.korvezul.proofs.LentValue.{reference, Lent}
+use Rattle.walks.proofs.LentValue.{reference, Lent}
 
 -- ---- the MIR. q is the local n; the outcome, the pointer to the row, the row and the head passed on are the four after it
 module _ (s : Ty → Ty) where

@@ -43,15 +43,15 @@ use Rattle.step.specs.declared.Request.{Request}
 use Rattle.step.specs.declared.Outcome.{Outcome}
 use Rattle.step.specs.Saying.{saidOf, Steps}
 use Rattle.step.specs.Stepping.{tableOf}
-use Rattle.row.proofs.LentSlice.{slice, Mutable}
+use Rattle.walks.proofs.LentSlice.{slice, Mutable}
 use Rattle.row.proofs.RecordOfRow.{RowRecord}
-use Rattle.row.proofs.Callee.{callee-answers, token-back}
-use Rattle.row.proofs.Locals.{frees-stored}
-use Rattle.row.proofs.ByWalk.{meets-by-walk}
+use Rattle.walks.proofs.Callee.{callee-answers, token-back}
+use Rattle.walks.proofs.Locals.{frees-stored}
+use Rattle.walks.proofs.ByWalk.{meets-by-walk}
 use Rattle.row.proofs.Plains.{headP, requestP, outcomeP, u32P}
 use Rattle.korvezul.specs.Calling.{Called, called, obeyLent}
 use Rattle.korvezul.proofs.OneStep.{one-step}
-use Rattle.korvezul.proofs.LentValue.{reference, Lent}
+use Rattle.walks.proofs.LentValue.{reference, Lent}
 use Rattle.korvezul.proofs.ThinEnd.{on-ended, Left, on-row, OnRow}
 use Rattle.korvezul.proofs.obey_lent.Symbol.{name as #korvezul·obey-lent}
 

@@ -2,11 +2,10 @@
 // set of occupied places. Each call is one step of the table; a refusal changes nothing. No call
 // asks anything of its caller.
 mod answers;
-mod fields;
-mod readers;
+mod messages;
 mod requests;
 mod version;
-mod writers;
+mod why;
 
 use answers::number;
 use answers::put_cc;

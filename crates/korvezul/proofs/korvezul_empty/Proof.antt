@@ -41,17 +41,17 @@ use Rattle.session.specs.declared.Session.{Session}
 use Rattle.table.specs.declared.Head.{Head}
 use Rattle.table.specs.Table.{emptied}
 use Rattle.step.specs.Stepping.{tableOf}
-use Rattle.row.proofs.LentSlice.{slice, Shared}
+use Rattle.walks.proofs.LentSlice.{slice, Shared}
 use Rattle.row.proofs.RecordOfRow.{RowRecord}
-use Rattle.row.proofs.Callee.{callee-answers}
-use Rattle.row.proofs.Locals.{frees-stored}
-use Rattle.row.proofs.ByWalk.{meets-by-walk}
+use Rattle.walks.proofs.Callee.{callee-answers}
+use Rattle.walks.proofs.Locals.{frees-stored}
+use Rattle.walks.proofs.ByWalk.{meets-by-walk}
 use Rattle.row.proofs.Plains.{headP, at-v}
 use Rattle.korvezul.specs.declared.Begun.{Begun}
 use Rattle.korvezul.specs.Calling.{Emptied, begunOf, emptying}
 use Rattle.korvezul.proofs.Begun as Begun′
 use Rattle.korvezul.proofs.Begun.Laws as Begun″
-use Rattle.korvezul.proofs.LentValue.{reference, Lent, value-opened, value-closed}
+use Rattle.walks.proofs.LentValue.{reference, Lent, value-opened, value-closed}
 use Rattle.korvezul.proofs.requests.first_table as ft
 use Rattle.korvezul.proofs.requests.first_table.Symbol as ft-def
 use Rattle.korvezul.proofs.requests.first_table.Symbol.{name as #korvezul·first-table}

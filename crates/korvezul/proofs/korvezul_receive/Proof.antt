@@ -26,7 +26,7 @@ use Rattle.step.proofs.Told.Laws as Told″
 use Rattle.step.proofs.aimed_at.Symbol as tg-def
 use Rattle.step.proofs.aimed_at.Symbol.{name as #step·aimed-at}
 use Rattle.step.proofs.aimed_at.Met as tg-thm
-use Rattle.row.proofs.TypeParts.{name-of, fields-of, place-in}
+use Rattle.walks.proofs.TypeParts.{name-of, fields-of, place-in}
 use Rattle.row.proofs.Plains.{Plain, u32P, u64P, headP, targetP, summaryP, outcomeP, sessionP, arrivalP}
 use Rattle.row.proofs.scan_row.Symbol as sc-def
 use Rattle.row.proofs.scan_row.Symbol.{name as #row·scan-row}
@@ -37,7 +37,7 @@ use Rattle.row.proofs.receive_at.Met as at-thm
 use Rattle.korvezul.specs.Calling.{called, arrivalOf, receiveLent}
 use Rattle.korvezul.proofs.OneStep.{receive-step, one-step}
 use Rattle.korvezul.proofs.LentRow.{head-is}
-use Rattle.korvezul.proofs.LentReceive as lent
+use Rattle.walks.proofs.LentReceive as lent
 use Rattle.korvezul.proofs.requests.arrival.Symbol as ar-def
 use Rattle.korvezul.proofs.requests.arrival.Symbol.{name as #korvezul·arrival}
 use Rattle.korvezul.proofs.requests.arrival.Met as ar-thm

@@ -12,7 +12,7 @@ use Rattle.step.specs.Stepping.{obeyAt}
 use Rattle.step.proofs.target.Symbol as tg-def
 use Rattle.step.proofs.target.Symbol.{name as #step·target}
 use Rattle.step.proofs.target.Met as tg-thm
-use Rattle.row.proofs.TypeParts.{name-of, fields-of, place-in}
+use Rattle.walks.proofs.TypeParts.{name-of, fields-of, place-in}
 use Rattle.row.proofs.Plains.{Plain, headP, targetP, summaryP, requestP, outcomeP, sessionP}
 use Rattle.row.proofs.scan_row.Symbol as sc-def
 use Rattle.row.proofs.scan_row.Symbol.{name as #row·scan-row}
@@ -20,7 +20,7 @@ use Rattle.row.proofs.scan_row.Met as sc-thm
 use Rattle.row.proofs.obey_at.Symbol as at-def
 use Rattle.row.proofs.obey_at.Symbol.{name as #row·obey-at}
 use Rattle.row.proofs.obey_at.Met as at-thm
-use Rattle.korvezul.proofs.LentCall as lent
+use Rattle.walks.proofs.LentCall as lent
 use Rattle.korvezul.proofs.LentRow.{lent-call}
 use Rattle.korvezul.proofs.obey_lent.Key.{name as #korvezul·obey-lent}
 use Rattle.korvezul.proofs.obey_lent as f

@@ -11,7 +11,7 @@ use Rattle.step.specs.Stepping.{openingTarget, openAt}
 use Rattle.step.proofs.opening_target.Symbol as tg-def
 use Rattle.step.proofs.opening_target.Symbol.{name as #step·opening-target}
 use Rattle.step.proofs.opening_target.Met as tg-thm
-use Rattle.row.proofs.TypeParts.{name-of, fields-of, place-in}
+use Rattle.walks.proofs.TypeParts.{name-of, fields-of, place-in}
 use Rattle.row.proofs.Plains.{Plain, headP, targetP, summaryP, openingP, outcomeP, sessionP}
 use Rattle.row.proofs.scan_row.Symbol as sc-def
 use Rattle.row.proofs.scan_row.Symbol.{name as #row·scan-row}
@@ -19,7 +19,7 @@ use Rattle.row.proofs.scan_row.Met as sc-thm
 use Rattle.row.proofs.open_at.Symbol as at-def
 use Rattle.row.proofs.open_at.Symbol.{name as #row·open-at}
 use Rattle.row.proofs.open_at.Met as at-thm
-use Rattle.korvezul.proofs.LentCall as lent
+use Rattle.walks.proofs.LentCall as lent
 use Rattle.korvezul.proofs.LentRow.{lent-call}
 use Rattle.korvezul.proofs.open_lent.Key.{name as #korvezul·open-lent}
 use Rattle.korvezul.proofs.open_lent as f

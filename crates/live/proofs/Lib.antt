@@ -1,0 +1,4 @@
+pub mod Plains
+pub mod LiveTable
+pub mod LiveMarks
+pub mod Live
