@@ -1,0 +1,13 @@
+pub mod Putting
+pub mod TellingShort
+pub mod Sizes
+pub mod Told
+pub mod WorkedWords
+pub mod Reading
+pub mod Decimals
+pub mod WorkedTexts
+pub mod Portions
+pub mod OneRead
+pub mod Sought
+pub mod SoughtText
+pub mod Pieces

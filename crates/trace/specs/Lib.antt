@@ -1,0 +1,3 @@
+pub mod Tracing
+pub mod Calling
+pub mod Asking
