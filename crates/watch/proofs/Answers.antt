@@ -1,34 +1,22 @@
 -- What the code makes of a system call's answer: a number below 0, 0, or a number of octets.
 -- Assumes nothing.
-use Prim.Native.Nat.{ℕ, _≤_, min}
+use Prim.Native.Nat.{ℕ}
 use native.Mathlib.Omega.{arith}
-use mathlib.Core.Path.{_≡_, refl, sym, ap, subst, _∙_}
-use mathlib.Core.Bool.{Bool, true, false}
+use mathlib.Core.Path.{_≡_, refl, ap, subst, _∙_}
+use mathlib.Core.Bool.{true, false}
 use lib.IntN.{ℤ, pos, negsuc}
 use lib.Signed.{ltZ}
 use mir.Syntax.{w64}
 use mir.Val.{SFits, toZ, ofZ}
-use mir.ValLaws.{toZ-ofZ}
 use borrow.Author.Tests.{ltb-true}
 use Rattle.libc.specs.Io.{Moved}
 use Rattle.io.specs.Counts.{clamped}
 use Rattle.rules.proofs.Bools.{no-way}
+use Rattle.syscall.proofs.Answers.{counted, held, test-held, count-held}
 use Rattle.pump.specs.declared.Pump.{Pump}
 use Rattle.pump.specs.Pumping.{gotOf, tookOf}
 use Rattle.watch.specs.declared.Called.{Called}
 use Rattle.watch.specs.Calls.{Failed, AfterRead, AfterWrite}
-
--- no more than so many, and so no more than more
-pub moved-in : (z : ℤ) (few many : ℕ) → few ≤ many → Moved few z → Moved many z
-moved-in (pos n) few many l m = between n m
-  where
-    between : (n : ℕ) → n ≤ few → n ≤ many
-    between n m = omega arith
-moved-in (negsuc n) few many l m = m
-
--- an answer that moved as many as it says is counted as it is
-counted : (k most n : ℕ) → k ≤ most → n ≡ min k most → n ≡ k
-counted k most n m e = omega arith
 
 abbrev movedTo : Pump → Called
 movedTo p = record { core = p; moved = true; go = true }
@@ -57,39 +45,26 @@ module _ (p : Pump) (r : Called) where
 
 -- as the code holds an answer
 module _ (z : ℤ) (fits : SFits w64 z) where
-  held : toZ w64 (ofZ w64 z) ≡ z
-  held = toZ-ofZ w64 z fits
-
-  test-held : {b : Bool} → ltZ (toZ w64 (ofZ w64 z)) (pos 0) ≡ b → ltZ z (pos 0) ≡ b
-  test-held e = ap (λ (y : ℤ). ltZ y (pos 0)) (sym held) ∙ e
-
-  count-held : (most : ℕ) {n : ℕ} → n ≡ clamped (toZ w64 (ofZ w64 z)) most → n ≡ clamped z most
-  count-held most e = e ∙ ap (λ (y : ℤ). clamped y most) held
-
-  -- handed on
-  pub moved-held : (most : ℕ) → Moved most z → Moved most (toZ w64 (ofZ w64 z))
-  moved-held most m = subst (Moved most) (sym held) m
-
   pub read-held : (p : Pump) (room : ℕ) (r : Called) → AfterRead p room (toZ w64 (ofZ w64 z)) r → AfterRead p room z r
-  read-held p room r f = subst (λ (y : ℤ). AfterRead p room y r) held f
+  read-held p room r f = subst (λ (y : ℤ). AfterRead p room y r) (held z fits) f
 
   pub write-held : (p : Pump) (r : Called) → AfterWrite p (toZ w64 (ofZ w64 z)) r → AfterWrite p z r
-  write-held p r f = subst (λ (y : ℤ). AfterWrite p y r) held f
+  write-held p r f = subst (λ (y : ℤ). AfterWrite p y r) (held z fits) f
 
   module _ (p : Pump) (r : Called) where
     pub after-failed-read : (room : ℕ) → ltZ (toZ w64 (ofZ w64 z)) (pos 0) ≡ true → Failed p r → AfterRead p room z r
-    after-failed-read room below f = read-failed p r room z (test-held below) f
+    after-failed-read room below f = read-failed p r room z (test-held z fits below) f
 
     pub after-failed-write : ltZ (toZ w64 (ofZ w64 z)) (pos 0) ≡ true → Failed p r → AfterWrite p z r
-    after-failed-write below f = write-failed p r z (test-held below) f
+    after-failed-write below f = write-failed p r z (test-held z fits below) f
 
     module _ (above : ltZ (toZ w64 (ofZ w64 z)) (pos 0) ≡ false) where
       pub after-no-write : ofZ w64 z ≡ 0 → Failed p r → AfterWrite p z r
-      after-no-write none f = write-none p r z (test-held above) none f
+      after-no-write none f = write-none p r z (test-held z fits above) none f
 
       module _ (most n : ℕ) (m : Moved most z) (e : n ≡ clamped (toZ w64 (ofZ w64 z)) most) (q : Pump) (f : r ≡ movedTo q) where
         pub after-moved-read : (room : ℕ) → q ≡ gotOf p n room → AfterRead p room z r
-        after-moved-read room g = read-moved p r room z most n q (test-held above) m (count-held most e) g f
+        after-moved-read room g = read-moved p r room z most n q (test-held z fits above) m (count-held z fits most e) g f
 
         pub after-moved-write : (ofZ w64 z ≡ 0 → ⊥) → q ≡ tookOf p n → AfterWrite p z r
-        after-moved-write some g = write-moved p r z most n q (test-held above) some m (count-held most e) g f
+        after-moved-write some g = write-moved p r z most n q (test-held z fits above) some m (count-held z fits most e) g f

@@ -4,13 +4,12 @@ use Prim.Native.Nat.{ℕ, _-_, _≤_}
 use native.Mathlib.Omega.{arith}
 use mathlib.Core.Path.{_≡_, refl, sym, ap, subst, _∙_}
 use mathlib.Core.Bool.{true, false}
-use mathlib.Core.List.{List, [], _∷_, _++_, append-nil}
-use lib.Dec.{eqb, ltb}
-use lib.ListN.{length, take, drop, length-append, length-take, length-drop, drop-of-length-le}
-use lib.Seq.{length-take-le, take-all, take-at}
+use mathlib.Core.List.{List, [], _∷_, _++_}
+use lib.Dec.{eqb}
+use lib.ListN.{length, take}
 use lib.IntN.{ℤ, pos, negsuc}
-use borrow.Author.Tests.{eqb-true, eqb-false, ltb-true, ltb-false}
-use borrow.Rule.Slice.PartMut.{midOf, putMid}
+use borrow.Author.Tests.{eqb-true, eqb-false}
+use borrow.Rule.Slice.PartMut.{midOf}
 use Rattle.libc.specs.Io.{Moved}
 use Rattle.rules.proofs.Bools.{no-way, split}
 use Rattle.pump.specs.declared.Pump.{Pump}
@@ -19,6 +18,7 @@ use Rattle.pump.specs.Pumping.{Pumped, starting, pendingIn, wantsOf, gotOf, too
 use Rattle.pump.specs.Watching.{CallAnswer, Came, Took, Watched, beforeCalls, withAnswer, turnedOn, oneCall, watched, AnswersCall, AllAnswered, TextWritten}
 use Rattle.pump.proofs.Between.{wants-read, wants-write, wants-nothing}
 use Rattle.pump.proofs.Watching.{watched-more, answered-more, text-written}
+use Rattle.syscall.proofs.Answers.{left, part-room, left-is, left-length, left-there}
 use Rattle.watch.specs.declared.Called.{Called}
 use Rattle.watch.specs.Calls.{Failed, AfterRead, AfterWrite, Answer, Alike, CallMade, Reached}
 
@@ -55,64 +55,34 @@ writing p w n = omega (arith, wants-write p w, wants-nothing p n .0)
 
 -- a read that is lent the buffer from a place on, and leaves that part as it says
 module _ (p : Pump) (buf part : List ℕ) (at : ℕ) (w : Within (p .have) buf at) (lent : length part ≡ length (midOf at (length buf - at) buf)) where
-  abbrev left : List ℕ
-  left = putMid at (length buf - at) buf part
-
-  behind-have : length buf - at ≡ length buf - p .have
-  behind-have = omega (arith, w .fits, w .count, ap length (w .same-part), length-take (p .have) buf)
-
-  part-room : length part ≡ length buf - p .have
-  part-room = lent ∙ length-take-le (length buf - at) (drop at buf) (omega (arith, length-drop at buf)) ∙ behind-have
-
-  pub left-is : left ≡ take (p .have) buf ++ part
-  left-is =
-      let none : drop (length buf - at) (drop at buf) ≡ [] = drop-of-length-le (drop at buf) {i = length buf - at} (omega (arith, length-drop at buf)) in
-      ap (λ (l : List ℕ). take at buf ++ (part ++ l)) none
-      ∙ ap (λ (l : List ℕ). take at buf ++ l) (append-nil part)
-      ∙ ap (λ (l : List ℕ). l ++ part) (w .same-part)
-
-  left-length : length (take (p .have) buf ++ part) ≡ length buf
-  left-length = omega (arith, length-append (take (p .have) buf) part, length-take (p .have) buf, part-room)
-
-  pub left-room : length (midOf at (length buf - at) buf) ≤ length left
-  left-room = omega (arith, ap length left-is, left-length, part-room, lent)
-
-  left-there : take (p .have) (take (p .have) buf ++ part) ≡ take (p .have) buf
-  left-there =
-      split (ltb (p .have) (length buf))
-      (λ b. take-at (take (p .have) buf) part (p .have) (length-take-le (p .have) buf (omega (arith, ltb-true (p .have) (length buf) b))))
-      (λ b.
-      let full = ltb-false (p .have) (length buf) b in
-      let none : part ≡ [] = sym (take-all 0 part (omega (arith, part-room, full))) in
-      take-all (p .have) (take (p .have) buf ++ part) (omega (arith, left-length, full))
-      ∙ ap (λ (l : List ℕ). take (p .have) buf ++ l) none
-      ∙ append-nil (take (p .have) buf))
+  abbrev after : List ℕ
+  after = left (p .have) buf part at w lent
 
   module _ (wanted : wantsOf p ≡ Read) (out : List ℕ) where
-    read-stays : Alike (record { pump = p; buf = buf; out = out }) (record { pump = p; buf = left; out = out })
+    read-stays : Alike (record { pump = p; buf = buf; out = out }) (record { pump = p; buf = after; out = out })
     read-stays =
         record {
           core = refl;
           text = refl;
-          room = ap length left-is ∙ left-length;
-          there = ap (take (p .have)) left-is ∙ left-there;
+          room = ap length (left-is (p .have) buf part at w lent) ∙ left-length (p .have) buf part at w lent;
+          there = ap (take (p .have)) (left-is (p .have) buf part at w lent) ∙ left-there (p .have) buf part at w lent;
           behind = λ e. absurd (omega (arith, wants-write p e, wants-read p wanted .0));
         }
 
-    read-answers : (n : ℕ) → n ≤ length part → Answer (record { pump = p; buf = buf; out = out }) (record { pump = gotOf p n (length left); buf = left; out = out })
+    read-answers : (n : ℕ) → n ≤ length part → Answer (record { pump = p; buf = buf; out = out }) (record { pump = gotOf p n (length after); buf = after; out = out })
     read-answers n few =
         record {
           answer = Came n part;
-          wanted = (wanted, part-room, few);
-          leaves = ap (λ (l : List ℕ). record { pump = gotOf p n (length l); buf = l; out = out }) left-is;
+          wanted = (wanted, part-room (p .have) buf part at w lent, few);
+          leaves = ap (λ (l : List ℕ). record { pump = gotOf p n (length l); buf = l; out = out }) (left-is (p .have) buf part at w lent);
         }
 
-    pub read-made : (r : Called) (z : ℤ) → Moved (length (midOf at (length buf - at) buf)) z → AfterRead p (length left) z r
-        → CallMade (record { pump = p; buf = buf; out = out }) r left
+    pub read-made : (r : Called) (z : ℤ) → Moved (length (midOf at (length buf - at) buf)) z → AfterRead p (length after) z r
+        → CallMade (record { pump = p; buf = buf; out = out }) r after
     read-made r (pos n) m e =
-        call-moved (record { pump = p; buf = buf; out = out }) r left (gotOf p n (length left)) e (reading p wanted)
+        call-moved (record { pump = p; buf = buf; out = out }) r after (gotOf p n (length after)) e (reading p wanted)
         (read-answers n (subst (λ (k : ℕ). n ≤ k) (sym lent) m))
-    read-made r (negsuc n) m f = call-stayed (record { pump = p; buf = buf; out = out }) r left f (λ e. absurd (reading p wanted e)) read-stays
+    read-made r (negsuc n) m f = call-stayed (record { pump = p; buf = buf; out = out }) r after f (λ e. absurd (reading p wanted e)) read-stays
 
 -- a write
 module _ (p : Pump) (buf out : List ℕ) (wanted : wantsOf p ≡ Write) where

@@ -2,8 +2,6 @@
 // output. Any length of input, in whatever pieces it comes, in constant memory: one buffer for input,
 // one for output, and a core by value that says what is wanted next. Here the two system calls are
 // made, and nothing else.
-use libc::EINTR;
-use libc::STDERR_FILENO;
 use libc::STDIN_FILENO;
 use libc::STDOUT_FILENO;
 use pump::Pump;
@@ -46,26 +44,13 @@ fn stayed(core: Pump, go: bool) -> Called
     }
 }
 
-fn error_number(error: i32) -> u64 {
-    if error < 0 {
-        return 0;
-    }
-    error as u64
-}
-
-// A call that was only interrupted is made again. Of any other that failed standard error is told,
-// and nothing more is done.
+// A call that was only interrupted is made again, and behind any other that failed nothing more is
+// done.
 fn failed(core: Pump, writing: bool, error: i32) -> Called
     ensures { λ r. ⌜ Failed core r ⌝ }
 {
-    if error == EINTR {
-        return stayed(core, true);
-    }
     let number = core.table.fed.number;
-    let mut line = [0u8; 128];
-    let n = pump::put_failure(&mut line, writing, error_number(error), number);
-    io::write_all(STDERR_FILENO, pump::part(&line, 0, n));
-    stayed(core, false)
+    stayed(core, syscall::is_again(b"watch", writing, error, number))
 }
 
 // What one read answered. None is the end of the input.

@@ -9,20 +9,5 @@ use Rattle.watch.proofs.failed.Tie as tie
 returns : tie.Need-returns
 returns c = let e = c .stayed .ensures in (ap (λ (r : Called). r .core) e, ap (λ (r : Called). r .moved) e)
 
-returns-2 : tie.Need-returns-2
-returns-2 c = let e = c .stayed2 .ensures in (ap (λ (r : Called). r .core) e, ap (λ (r : Called). r .moved) e)
-
 pub failed-spec : {M : Type 1} → statement M
-failed-spec =
-    tie.close
-    (tie.spec
-    (λ c κs. search needs)
-    returns
-    (λ c. search needs)
-    (λ c κs. search needs)
-    (λ c κs. search needs)
-    (λ c. search needs)
-    (λ c κs. search needs)
-    (λ c κs. search needs)
-    (λ c κs. search needs)
-    returns-2)
+failed-spec = tie.close (tie.spec (λ c. search needs) (λ c κs. search needs) (λ c κs. search needs) returns)

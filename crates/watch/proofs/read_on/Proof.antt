@@ -1,8 +1,9 @@
 -- `watch::read_on` meets its contract.
 -- Assumes nothing.
 use borrow.Author.Needs.{needs}
-use Rattle.watch.proofs.Answers.{moved-in, moved-held, read-held}
-use Rattle.watch.proofs.Calling.{left-room, read-made}
+use Rattle.syscall.proofs.Answers.{moved-in, moved-held, left-room}
+use Rattle.watch.proofs.Answers.{read-held}
+use Rattle.watch.proofs.Calling.{read-made}
 use Rattle.watch.proofs.read_on.Statement.{statement}
 use Rattle.watch.proofs.read_on.Tie as tie
 
@@ -12,7 +13,7 @@ after-read-requires c κs =
     let w = d .before .before in
     let a = w .before .before .before .args in
     moved-held (d .read .result) (record { sfits = d .read .ok }) _
-    (moved-in (d .read .result) _ _ (left-room (a .core) (a .buf .now) (d .read .last .1 .0) (w .within .result) (w .within .ensures) (d .read .kept .1 .0)) (d .read .ensures))
+    (moved-in (d .read .result) _ _ (left-room (a .core .have) (a .buf .now) (d .read .last .1 .0) (w .within .result) (w .within .ensures) (d .read .kept .1 .0)) (d .read .ensures))
 
 returns : tie.Need-returns
 returns c out =

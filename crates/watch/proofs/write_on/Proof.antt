@@ -6,7 +6,8 @@ use Prim.Native.Nat.{ℕ}
 use lib.ListN.{length}
 use borrow.Author.Needs.{needs}
 use Rattle.libc.specs.Io.{Moved}
-use Rattle.watch.proofs.Answers.{moved-held, write-held}
+use Rattle.syscall.proofs.Answers.{moved-held}
+use Rattle.watch.proofs.Answers.{write-held}
 use Rattle.watch.proofs.Calling.{write-made}
 use Rattle.watch.proofs.write_on.Statement.{statement}
 use Rattle.watch.proofs.write_on.Tie as tie

@@ -1,4 +1,4 @@
--- `watch::error_number` is safe: what is cast is not negative.
+-- `syscall::error_number` is safe: what is cast is not negative.
 -- Assumes nothing.
 use mathlib.Core.Path.{sym, subst}
 use mathlib.Core.Bool.{Bool, not}
@@ -10,8 +10,8 @@ use mir.Syntax.{w32, w64}
 use mir.Val.{Fits, toZ, ofZ}
 use mir.ValLaws.{toZ-ofZ}
 use borrow.Author.Needs.{needs}
-use Rattle.watch.proofs.error_number.Statement.{statement}
-use Rattle.watch.proofs.error_number.Tie as tie
+use Rattle.syscall.proofs.error_number.Statement.{statement}
+use Rattle.syscall.proofs.error_number.Tie as tie
 
 cast-result : tie.Need-cast-result
 cast-result c =
