@@ -3,23 +3,16 @@
 // printed for each capture; where a text differs, it is printed too.
 //
 // The lines were made by the second program, and each was worked out by hand (the .txt beside it).
-mod files;
 mod playing;
-mod texts;
 
-use libc::STDOUT_FILENO;
-
-fn say(text: &[u8]) {
-    io::write_all(STDOUT_FILENO, text);
-}
+use stored::say;
 
 // Whether a text is the one expected; if not, it is printed.
 fn is_expected(text: &[u8], expected: &[u8]) -> bool {
     if check::same(text, expected) {
         return true;
     }
-    say(b": not as expected\n");
-    say(text);
+    stored::say_differs(text);
     false
 }
 
@@ -37,9 +30,7 @@ fn hold(capture: &[u8], expected: &[u8]) {
     if !holds_in_steps(capture, 7, expected) {
         return;
     }
-    say(b": ");
-    io::print_decimal(STDOUT_FILENO, texts::line_count(expected));
-    say(b" lines, as expected\n");
+    stored::say_holds(stored::line_count(expected), b" lines");
 }
 
 // The capture that argument i names.
@@ -48,9 +39,9 @@ fn run_named(i: usize) {
     let n = os::arg(i, &mut name);
     say(&name[..n]);
     let mut capture = io::large_buffer();
-    let given = files::read_named(&mut name, n, b".capture", &mut capture);
+    let given = stored::read_named(&mut name, n, b".capture", &mut capture);
     let mut expected = io::large_buffer();
-    let wanted = files::read_named(&mut name, n, b".lines", &mut expected);
+    let wanted = stored::read_named(&mut name, n, b".lines", &mut expected);
     if !given.whole || !wanted.whole {
         say(b": cannot be read\n");
         return;

@@ -1,8 +1,9 @@
 // A capture fed to a table in steps, as if its octets came one step after the other.
-use crate::texts::put_text;
 use capture::Next;
 use feed::Fed;
 use owner::Feeding;
+use stored::further;
+use stored::put_text;
 ghost use Rattle.io.specs.Counts.{Counts};
 
 // The table, and how many octets of the capture have come.
@@ -24,19 +25,6 @@ fn begun() -> Playing {
     };
     let table = Feeding { row, fed };
     Playing { table, have: 8 }
-}
-
-// A step further, at most to the end.
-fn further(have: usize, step: usize, all: &[u8]) -> usize
-    ensures { λ r. ⌜ Counts r (now (all .entry)) ⌝ }
-{
-    let n = all.len();
-    if have < n {
-        if step < n - have {
-            return have + step;
-        }
-    }
-    n
 }
 
 fn advance(p: Playing, capture: &[u8], step: usize, out: &mut [u8]) -> Playing {
