@@ -17,7 +17,7 @@ pub fn check(count: u64, program: &Path) -> io::Result<Result<u64, String>> {
         let capture = make::capture(seed);
         let expected = watch::text(&capture);
         let piece = piece_length(seed, capture.len());
-        let outcome = run(program, &capture, piece)?;
+        let outcome = run(program, &[], &capture, piece)?;
         if let Some(text) = difference(&capture, &expected, &outcome) {
             return Ok(Err(format!("seed {seed}, fed {piece} at a time: {text}")));
         }
@@ -27,7 +27,7 @@ pub fn check(count: u64, program: &Path) -> io::Result<Result<u64, String>> {
 }
 
 /// Some captures are fed in odd pieces, most of them whole.
-fn piece_length(seed: u64, whole: usize) -> usize {
+pub fn piece_length(seed: u64, whole: usize) -> usize {
     let piece = match seed % 8 {
         1 => 1,
         3 => 7,
@@ -37,14 +37,17 @@ fn piece_length(seed: u64, whole: usize) -> usize {
     piece.max(1)
 }
 
-struct Outcome {
-    text: Vec<u8>,
+/// What a program made of a capture.
+pub struct Outcome {
+    pub text: Vec<u8>,
     /// The program ended by itself, not by a signal.
-    ended: bool,
+    pub ended: bool,
 }
 
-fn run(program: &Path, capture: &[u8], piece: usize) -> io::Result<Outcome> {
+/// Runs a program with these words behind its name on a capture.
+pub fn run(program: &Path, words: &[String], capture: &[u8], piece: usize) -> io::Result<Outcome> {
     let mut child = Command::new(program)
+        .args(words)
         .stdin(Stdio::piped())
         .stdout(Stdio::piped())
         .spawn()

@@ -199,7 +199,7 @@ impl Counts {
 
     /// Counts what an accepted BFD message meets that is or becomes held down.
     fn add_held(&mut self, session: &Session, message: &Message, now: u64) {
-        if session.is_misconnected(message) {
+        if session.settings.is_misconnected(message) {
             let in_init = session.state == State::Init && !session.has_loss(now);
             self.extras[11] += u64::from(in_init);
         } else if let Message::Cc(bfd) = message {

@@ -1,15 +1,19 @@
 //! Command line of the second implementation.
 
-use peer::{assemble, check, cover, load, make, own, watch};
+use peer::why::question::{self, Question};
+use peer::{assemble, check, cover, load, make, morning, own, watch, why};
 use std::io::{self, BufReader, BufWriter, Write};
 use std::path::Path;
 use std::process::ExitCode;
 
 const USAGE: &str = "usage: peer watch [--own-table] < capture
-       peer make SEED > capture
+       peer why LABEL THING [if=NODE/INTERFACE] [global=ID] [upto=RECORD] < capture
+       peer make [--ties] SEED > capture
        peer assemble TEXT > capture
        peer check N [--program PATH]
+       peer check-why N [--program PATH]
        peer cover N
+       peer morning > TEXT
        peer load one|many|mixed|full COUNT > capture";
 
 /// The program compared with, unless another is named.
@@ -35,8 +39,13 @@ fn run(words: &[&str]) -> io::Result<ExitCode> {
             print(|output| watch::watch(input, output))
         }
         ["watch", "--own-table"] => print(|output| own::watch(io::stdin().lock(), output)),
+        ["why", question @ ..] => answer(question),
         ["make", seed] => {
             let capture = make::capture(number(seed)?);
+            print(|output| output.write_all(&capture))
+        }
+        ["make", "--ties", seed] => {
+            let capture = make::tied(number(seed)?);
             print(|output| output.write_all(&capture))
         }
         ["assemble", path] => {
@@ -47,10 +56,20 @@ fn run(words: &[&str]) -> io::Result<ExitCode> {
         }
         ["check", count] => compare(number(count)?, DEFAULT_PROGRAM),
         ["check", count, "--program", path] => compare(number(count)?, path),
+        ["check-why", count] => {
+            let count = number(count)?;
+            print(|output| why::check::cover(count, output))
+        }
+        ["check-why", count, "--program", path] => {
+            let count = number(count)?;
+            let asked = why::check::check(count, Path::new(path))?;
+            Ok(tell(count, "questions", asked))
+        }
         ["cover", count] => {
             let count = number(count)?;
             print(|output| cover::cover(count, output))
         }
+        ["morning"] => print(|output| output.write_all(morning::text().as_bytes())),
         ["load", load, count] => {
             let (load, count) = (load.parse()?, number(count)?);
             print(|output| load::load(load, count, output))
@@ -72,15 +91,35 @@ fn print(
     Ok(ExitCode::SUCCESS)
 }
 
+/// Answers a question; words that are none get the one line of usage.
+fn answer(words: &[&str]) -> io::Result<ExitCode> {
+    match Question::of(words) {
+        Some(question) => {
+            let input = BufReader::with_capacity(BUFFER, io::stdin().lock());
+            print(|output| why::why(&question, input, output))
+        }
+        None => {
+            println!("{}", question::USAGE);
+            Ok(ExitCode::from(2))
+        }
+    }
+}
+
 fn compare(count: u64, program: &str) -> io::Result<ExitCode> {
-    match check::check(count, Path::new(program))? {
-        Ok(records) => {
-            println!("{count} captures, {records} records, no difference");
-            Ok(ExitCode::SUCCESS)
+    let compared = check::check(count, Path::new(program))?;
+    Ok(tell(count, "records", compared))
+}
+
+/// Says how much of what was compared, or what differs.
+fn tell(count: u64, what: &str, compared: Result<u64, String>) -> ExitCode {
+    match compared {
+        Ok(number) => {
+            println!("{count} captures, {number} {what}, no difference");
+            ExitCode::SUCCESS
         }
         Err(difference) => {
             println!("{difference}");
-            Ok(ExitCode::FAILURE)
+            ExitCode::FAILURE
         }
     }
 }

@@ -1,6 +1,6 @@
 //! One session: what it keeps, how it moves and what it says of itself.
 
-use crate::mep_id::{MepId, LONGEST_VALUE};
+use crate::mep_id::LONGEST_VALUE;
 use crate::message::{Bfd, Fault, FaultKind, Message, Origin, State, CHANNEL_CC, CHANNEL_CV};
 use crate::refusal::Refusal;
 use crate::settings::Settings;
@@ -12,7 +12,7 @@ pub const CONDITION_TIME_PER_SECOND: u64 = 3_500_000;
 /// The most conditions a session holds.
 pub const CONDITIONS: usize = 4;
 /// The detection multiplier before a CC gives one, and the one written.
-const OWN_MULTIPLIER: u8 = 3;
+pub const OWN_MULTIPLIER: u8 = 3;
 
 /// The key of a fault condition: its type, Global_ID and interface. One that is
 /// absent equals an absent one and no other.
@@ -185,30 +185,11 @@ impl Session {
     /// Takes in a message that is not refused.
     pub fn take(&mut self, message: &Message, now: u64) {
         match message {
-            _ if self.is_misconnected(message) => self.misconnect(now),
+            _ if self.settings.is_misconnected(message) => self.misconnect(now),
             Message::Cc(bfd) => self.process_cc(bfd, now),
             Message::Cv(..) => self.detecting_since = now,
             Message::Fault(fault) => self.take_fault(fault, now),
         }
-    }
-
-    /// Whether the message is one of another circuit.
-    pub fn is_misconnected(&self, message: &Message) -> bool {
-        match message {
-            Message::Cc(bfd) => self.is_foreign(bfd),
-            Message::Cv(bfd, source) => self.is_foreign(bfd) || self.is_wrong(source),
-            Message::Fault(_) => false,
-        }
-    }
-
-    /// The packet names another session as its receiver.
-    fn is_foreign(&self, bfd: &Bfd) -> bool {
-        bfd.your_discriminator != 0 && bfd.your_discriminator != self.settings.discriminator
-    }
-
-    /// The packet comes from a maintenance end point that was not expected.
-    fn is_wrong(&self, source: &MepId) -> bool {
-        *source != self.settings.expected
     }
 
     /// A message of another circuit is dated and takes INIT and UP to DOWN.
@@ -373,7 +354,8 @@ impl Session {
     }
 }
 
-fn key_of(fault: &Fault) -> Key {
+/// The key of the condition that a fault message starts, renews or ends.
+pub fn key_of(fault: &Fault) -> Key {
     Key {
         kind: fault.kind,
         origin: fault.origin,
@@ -383,6 +365,7 @@ fn key_of(fault: &Fault) -> Key {
 #[cfg(test)]
 mod tests {
     use super::*;
+    use crate::mep_id::MepId;
 
     /// A session in UP, as no calls leave it where it is held down.
     fn session_up() -> Session {

@@ -1,6 +1,7 @@
 //! The settings that open a session.
 
 use crate::mep_id::MepId;
+use crate::message::{Bfd, Message};
 use crate::octets::{be16, be32};
 
 pub const LOWEST_LABEL: u32 = 16;
@@ -51,5 +52,24 @@ impl Settings {
             && (SHORTEST_PERIOD..=LONGEST_PERIOD).contains(&self.period)
             && self.own.is_well_formed()
             && self.expected.is_well_formed()
+    }
+
+    /// Whether the message is one of another circuit.
+    pub fn is_misconnected(&self, message: &Message) -> bool {
+        match message {
+            Message::Cc(bfd) => self.is_foreign(bfd),
+            Message::Cv(bfd, source) => self.is_foreign(bfd) || self.is_wrong(source),
+            Message::Fault(_) => false,
+        }
+    }
+
+    /// The packet names another session as its receiver.
+    fn is_foreign(&self, bfd: &Bfd) -> bool {
+        bfd.your_discriminator != 0 && bfd.your_discriminator != self.discriminator
+    }
+
+    /// The packet comes from a maintenance end point that was not expected.
+    fn is_wrong(&self, source: &MepId) -> bool {
+        *source != self.expected
     }
 }

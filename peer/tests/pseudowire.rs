@@ -166,7 +166,9 @@ fn session(own: MepId, expected: MepId) -> Session {
 
 /// Whether the session takes the message as one of its own circuit.
 fn hears(session: &Session, message: &[u8]) -> bool {
-    !session.is_misconnected(&read(message).unwrap().message)
+    !session
+        .settings
+        .is_misconnected(&read(message).unwrap().message)
 }
 
 #[test]

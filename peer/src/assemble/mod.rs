@@ -13,6 +13,7 @@ mod bodies;
 mod words;
 
 use crate::capture::{append_head, Kind, HEADER};
+pub use words::grouped;
 use words::{number, octets, Mistake, Words};
 
 /// The kinds of record by their names in a text, as they are numbered.

@@ -72,3 +72,16 @@ pub fn octets(digits: &str) -> Result<Vec<u8>, Mistake> {
     let pair = |at: usize| u8::from_str_radix(&digits[at..at + 2], 16).map_err(|_| mistake());
     (0..digits.len()).step_by(2).map(pair).collect()
 }
+
+/// A number with a comma before every three digits, as a text has it.
+pub fn grouped(number: u64) -> String {
+    let digits = number.to_string();
+    let mut text = String::new();
+    for (place, digit) in digits.chars().enumerate() {
+        if place > 0 && (digits.len() - place) % 3 == 0 {
+            text.push(',');
+        }
+        text.push(digit);
+    }
+    text
+}

@@ -2,7 +2,7 @@
 
 use super::{Circuit, Maker};
 use crate::mep_id::{MepId, PSEUDOWIRE};
-use crate::message::{Origin, State, CHANNEL_CC, CHANNEL_CV, CHANNEL_FAULT};
+use crate::message::{FaultKind, Origin, State, CHANNEL_CC, CHANNEL_CV, CHANNEL_FAULT};
 
 /// A BFD packet with its channel header.
 #[derive(Clone)]
@@ -65,6 +65,14 @@ impl FaultDraft {
         octets.push(tlvs.len().min(255) as u8);
         octets.extend_from_slice(&tlvs);
         octets
+    }
+}
+
+/// The number of a kind of fault message on the wire.
+pub(super) fn kind_number(kind: FaultKind) -> u8 {
+    match kind {
+        FaultKind::AlarmIndication => ALARM_INDICATION,
+        FaultKind::LockReport => LOCK_REPORT,
     }
 }
 

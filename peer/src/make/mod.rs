@@ -7,6 +7,7 @@ mod ending;
 mod readings;
 mod scenarios;
 mod sequences;
+mod ties;
 
 use crate::capture::{Kind, Record, HEADER};
 use crate::random::Random;
@@ -68,6 +69,27 @@ pub fn capture(seed: u64) -> Vec<u8> {
         }
         maker.next_scenario();
     }
+    maker.end();
+    maker.capture
+}
+
+/// The capture for a seed in which ends and readings tie, for questions after
+/// their causes.
+pub fn tied(seed: u64) -> Vec<u8> {
+    let mut maker = Maker::with_ties(seed);
+    if maker.random.chance(2) && !maker.spoil_header() {
+        return maker.capture;
+    }
+    maker.open_at_first();
+    let target = maker.random.between(20, 90);
+    let approaches_largest = maker.random.chance(15);
+    while maker.records < target {
+        if approaches_largest && !maker.late && maker.records > target / 2 {
+            maker.approach_largest_reading();
+        }
+        maker.next_tie();
+    }
+    maker.leave_standing();
     maker.end();
     maker.capture
 }

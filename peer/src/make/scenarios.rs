@@ -2,8 +2,8 @@
 
 use super::damage::{fields, get, set, values};
 use super::draft::{
-    global_tlv, interface_tlv, origin_tlvs, BfdDraft, FaultDraft, ALARM_INDICATION, CLEAR,
-    LINK_DOWN, POLL,
+    global_tlv, interface_tlv, kind_number, origin_tlvs, BfdDraft, FaultDraft, CLEAR, LINK_DOWN,
+    POLL,
 };
 use super::{Circuit, Maker, Style};
 use crate::capture::{open_body, Kind};
@@ -45,7 +45,7 @@ const SCENARIOS: [(Scenario, [u64; 5]); 29] = [
     (Maker::send_pseudowire, [4, 1, 1, 12, 2]),
 ];
 
-type Scenario = fn(&mut Maker);
+pub(super) type Scenario = fn(&mut Maker);
 
 impl Maker {
     /// Goes on with a scenario, by the weights of the capture's style.
@@ -57,14 +57,19 @@ impl Maker {
             Style::Damage => 3,
             Style::Edges => 4,
         };
-        let total = SCENARIOS.iter().map(|(_, weights)| weights[style]).sum();
+        let of_style = SCENARIOS.map(|(scenario, weights)| (scenario, weights[style]));
+        self.go_on(&of_style);
+    }
+
+    /// Goes on with one of some scenarios, by their weights.
+    pub(super) fn go_on(&mut self, scenarios: &[(Scenario, u64)]) {
+        let total = scenarios.iter().map(|(_, weight)| weight).sum();
         let mut left = self.random.below(total);
-        for (scenario, weights) in SCENARIOS {
-            if left < weights[style] {
-                scenario(self);
-                break;
+        for (scenario, weight) in scenarios {
+            if left < *weight {
+                return scenario(self);
             }
-            left -= weights[style];
+            left -= weight;
         }
     }
 
@@ -89,7 +94,7 @@ impl Maker {
         }
     }
 
-    fn observe_any(&mut self) {
+    pub(super) fn observe_any(&mut self) {
         let circuit = self.pick_circuit();
         self.observe(&circuit);
     }
@@ -109,7 +114,7 @@ impl Maker {
         self.observe_often(&circuit);
     }
 
-    fn tick(&mut self) {
+    pub(super) fn tick(&mut self) {
         let circuit = self.pick_circuit();
         let time = self.reading(&circuit);
         let label = self.random.word();
@@ -118,15 +123,15 @@ impl Maker {
         self.observe_often(&circuit);
     }
 
-    fn close(&mut self) {
+    pub(super) fn close(&mut self) {
         self.plain(Kind::Close);
     }
 
-    fn lock(&mut self) {
+    pub(super) fn lock(&mut self) {
         self.plain(Kind::Lock);
     }
 
-    fn unlock(&mut self) {
+    pub(super) fn unlock(&mut self) {
         self.plain(Kind::Unlock);
     }
 
@@ -148,7 +153,7 @@ impl Maker {
     }
 
     /// Opens a circuit that is closed, if one is found.
-    fn open_well(&mut self) {
+    pub(super) fn open_well(&mut self) {
         let mut circuit = self.pick_circuit();
         for _ in 0..4 {
             if self.session(&circuit).is_some() {
@@ -163,7 +168,7 @@ impl Maker {
 
     /// An open with one thing wrong: a setting, the length, the marks, or a
     /// label or discriminator that another session has.
-    fn open_oddly(&mut self) {
+    pub(super) fn open_oddly(&mut self) {
         let circuit = self.pick_circuit();
         let mut label = self.odd_label();
         let mut body = self.good_open_body(&circuit);
@@ -201,7 +206,7 @@ impl Maker {
         body.truncate(length);
     }
 
-    fn send_cc(&mut self) {
+    pub(super) fn send_cc(&mut self) {
         let circuit = self.pick_circuit();
         let draft = self.good_cc(&circuit);
         let time = self.reading(&circuit);
@@ -209,7 +214,7 @@ impl Maker {
         self.receive(&circuit, time, message);
     }
 
-    fn send_cv(&mut self) {
+    pub(super) fn send_cv(&mut self) {
         let circuit = self.pick_circuit();
         let draft = self.good_cv(&circuit);
         let time = self.reading(&circuit);
@@ -218,7 +223,7 @@ impl Maker {
     }
 
     /// A message of another circuit on this one.
-    fn send_misconnected(&mut self) {
+    pub(super) fn send_misconnected(&mut self) {
         let circuit = self.pick_circuit();
         let draft = self.misconnected(&circuit);
         let time = self.reading(&circuit);
@@ -252,7 +257,7 @@ impl Maker {
         draft
     }
 
-    fn send_fault(&mut self) {
+    pub(super) fn send_fault(&mut self) {
         let circuit = self.pick_circuit();
         let time = self.reading(&circuit);
         let mut draft = self.good_fault();
@@ -278,10 +283,7 @@ impl Maker {
         if self.random.chance(40) {
             key.origin.global = self.any_global();
         }
-        draft.kind = match key.kind {
-            crate::message::FaultKind::AlarmIndication => ALARM_INDICATION,
-            crate::message::FaultKind::LockReport => super::draft::LOCK_REPORT,
-        };
+        draft.kind = kind_number(key.kind);
         draft.tlvs = origin_tlvs(&key.origin);
         if self.random.chance(30) {
             draft.tlvs.push(self.unknown_tlv());
@@ -289,7 +291,7 @@ impl Maker {
         self.shuffle(&mut draft.tlvs);
     }
 
-    fn send_damaged(&mut self) {
+    pub(super) fn send_damaged(&mut self) {
         let circuit = self.pick_circuit();
         let time = self.reading(&circuit);
         let message = self.damaged_message(&circuit);
@@ -436,7 +438,7 @@ impl Maker {
 
     /// More conditions than a session holds, then one cleared, one renewed
     /// and another new one.
-    fn fill_conditions(&mut self) {
+    pub(super) fn fill_conditions(&mut self) {
         let circuit = self.pick_circuit();
         let refresh = self.random.pick(&[1, 2, 20]);
         let mut drafts = Vec::new();
