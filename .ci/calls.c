@@ -1,4 +1,4 @@
-/* Stands before the C library's `read` and `write` where `.ci/calls` runs `watch`. Each of these variables of the
+/* Stands before the C library's `read` and `write` where `.ci/calls` runs `watch` and `why`. Each of these variables of the
    environment changes what the system answers; without it nothing is changed.
    CALLS_READ: a read of standard input brings at most so many octets.
    CALLS_WRITE: a write to standard output takes at most so many octets.
