@@ -133,8 +133,34 @@ fn mistakes_are_named_with_their_line() {
         ),
         ("0 100 receive ais if=1", "an IF_ID is node/interface"),
         ("0 100 receive hex 123", "not octets in hexadecimal: 123"),
+        ("0 100 receive hex +1", "not octets in hexadecimal: +1"),
+        ("0 100 receive zeros=65,536", "too large: 65,536"),
+        ("0 100 receive zeros=65,535 pad=00", "body too long"),
+        ("0 100 receive ais nibble=16", "too large: nibble=16"),
+        ("0 100 receive cc up diag=32", "too large: diag=32"),
     ] {
         let found = assemble(&format!("# first\n{line}")).unwrap_err();
         assert_eq!(found, format!("line 2: {mistake}"));
+    }
+}
+
+#[test]
+fn a_length_that_is_not_named_has_to_fit_into_its_octet() {
+    let octets = "00".repeat(256);
+    for (line, mistake) in [
+        (format!("cc up behind={octets}"), "too large: length=280"),
+        (
+            format!("cv up mep=1/2/3 agi={octets}"),
+            "too large: agi-length=256",
+        ),
+        (format!("ais tlv={octets}"), "too large: total=256"),
+    ] {
+        let line = format!("0 100 receive {line}");
+        assert_eq!(assemble(&line).unwrap_err(), format!("line 1: {mistake}"));
+        for name in ["length", "agi-length", "total"] {
+            if mistake.contains(&format!(" {name}=")) {
+                assert!(assemble(&format!("{line} {name}=0")).is_ok());
+            }
+        }
     }
 }

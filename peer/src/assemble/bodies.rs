@@ -62,8 +62,8 @@ pub fn message(words: &mut Words) -> Result<Vec<u8>, Mistake> {
 
 /// The associated channel header.
 fn channel_header(words: &mut Words, channel: u16) -> Result<Vec<u8>, Mistake> {
-    let nibble: u8 = words.number("nibble", 1)?;
-    let version: u8 = words.number("gach-version", 0)?;
+    let nibble = words.bits("nibble", 1, 4)?;
+    let version = words.bits("gach-version", 0, 4)?;
     let mut header = vec![nibble << 4 | version, words.number("reserved", 0)?];
     header.extend(words.number("channel", channel)?.to_be_bytes());
     Ok(header)
@@ -73,11 +73,11 @@ fn channel_header(words: &mut Words, channel: u16) -> Result<Vec<u8>, Mistake> {
 fn bfd(words: &mut Words, channel: u16) -> Result<Vec<u8>, Mistake> {
     let mut message = channel_header(words, channel)?;
     let behind = octets(words.value("behind").unwrap_or(""))?;
-    let version: u8 = words.number("version", 1)?;
-    message.push(version << 5 | words.number("diag", 0)?);
+    let version = words.bits("version", 1, 3)?;
+    message.push(version << 5 | words.bits("diag", 0, 5)?);
     message.push(state_and_flags(words)?);
     message.push(words.number("mult", 3)?);
-    message.push(words.number("length", 24 + behind.len() as u8)?);
+    message.push(words.length("length", 24 + behind.len())?);
     for (name, usual) in [
         ("my", 0),
         ("your", 0),
@@ -127,7 +127,7 @@ fn source(words: &mut Words) -> Result<(u16, Vec<u8>), Mistake> {
     }
     let agi = octets(agi)?;
     value.push(words.number("agi-type", 0)?);
-    value.push(words.number("agi-length", agi.len() as u8)?);
+    value.push(words.length("agi-length", agi.len())?);
     value.extend(agi);
     Ok((PSEUDOWIRE, value))
 }
@@ -135,14 +135,14 @@ fn source(words: &mut Words) -> Result<(u16, Vec<u8>), Mistake> {
 /// A fault message.
 fn fault(words: &mut Words, kind: u8) -> Result<Vec<u8>, Mistake> {
     let mut message = channel_header(words, CHANNEL_FAULT)?;
-    let version: u8 = words.number("version", 1)?;
-    message.push(version << 4 | words.number("low-nibble", 0)?);
+    let version = words.bits("version", 1, 4)?;
+    message.push(version << 4 | words.bits("low-nibble", 0, 4)?);
     message.push(words.number("type", kind)?);
     let flags = 2 * u8::from(words.has("L")) + u8::from(words.has("R"));
     message.push(words.number("flags", flags)?);
     message.push(words.number("refresh", 1)?);
     let tlvs = tlvs(words)?;
-    message.push(words.number("total", tlvs.len() as u8)?);
+    message.push(words.length("total", tlvs.len())?);
     message.extend(tlvs);
     Ok(message)
 }

@@ -97,7 +97,7 @@ fn kind_of(name: &str) -> Result<Kind, Mistake> {
 fn body_of(kind: Kind, words: &mut Words) -> Result<Vec<u8>, Mistake> {
     let cut = words.number("cut", usize::MAX)?;
     let pad = octets(words.value("pad").unwrap_or(""))?;
-    let zeros = words.number("zeros", 0)?;
+    let zeros: u16 = words.number("zeros", 0)?;
     let mut body = match kind {
         _ if words.has("hex") => words.octets()?,
         Kind::Open => bodies::settings(words)?,
@@ -106,6 +106,6 @@ fn body_of(kind: Kind, words: &mut Words) -> Result<Vec<u8>, Mistake> {
     };
     body.truncate(cut);
     body.extend(pad);
-    body.resize(body.len() + zeros, 0);
+    body.resize(body.len() + usize::from(zeros), 0);
     Ok(body)
 }

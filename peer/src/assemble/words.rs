@@ -38,6 +38,21 @@ impl<'a> Words<'a> {
         self.value(name).map_or(Ok(usual), number)
     }
 
+    /// The same for a number of so many bits.
+    pub fn bits(&mut self, name: &str, usual: u8, width: u32) -> Result<u8, Mistake> {
+        let value = self.number(name, usual)?;
+        match value >> width {
+            0 => Ok(value),
+            _ => Err(format!("too large: {name}={value}")),
+        }
+    }
+
+    /// The same for the length of what stands behind it, in an octet.
+    pub fn length(&mut self, name: &str, usual: usize) -> Result<u8, Mistake> {
+        let usual = u8::try_from(usual).map_err(|_| format!("too large: {name}={usual}"));
+        self.value(name).map_or(usual, number)
+    }
+
     /// Takes all words that are left as octets in hexadecimal.
     pub fn octets(&mut self) -> Result<Vec<u8>, Mistake> {
         octets(&std::mem::take(&mut self.left).concat())
@@ -66,7 +81,7 @@ pub fn number<T: TryFrom<u64>>(word: &str) -> Result<T, Mistake> {
 /// Octets written in hexadecimal, two digits each.
 pub fn octets(digits: &str) -> Result<Vec<u8>, Mistake> {
     let mistake = || format!("not octets in hexadecimal: {digits}");
-    if !digits.is_ascii() || digits.len() % 2 != 0 {
+    if !digits.bytes().all(|digit| digit.is_ascii_hexdigit()) || digits.len() % 2 != 0 {
         return Err(mistake());
     }
     let pair = |at: usize| u8::from_str_radix(&digits[at..at + 2], 16).map_err(|_| mistake());
