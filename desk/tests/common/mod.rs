@@ -1,0 +1,80 @@
+//! What the tests of the commands share: running `desk`, files of its own, stored captures.
+#![allow(dead_code)]
+
+use std::path::{Path, PathBuf};
+use std::process::{Command, Output};
+
+/// The folder of this package.
+pub fn package() -> &'static Path {
+    Path::new(env!("CARGO_MANIFEST_DIR"))
+}
+
+/// Where `watch` and `why` are: in the folder that KORVEZUL_BIN names, else in that of the gate.
+pub fn programs() -> PathBuf {
+    let named = std::env::var_os("KORVEZUL_BIN").map(PathBuf::from);
+    named.unwrap_or_else(|| package().join("../target/bin"))
+}
+
+/// Runs `desk`.
+pub fn desk(words: &[&str]) -> Output {
+    Command::new(env!("CARGO_BIN_EXE_desk"))
+        .args(words)
+        .env("KORVEZUL_BIN", programs())
+        .output()
+        .expect("desk runs")
+}
+
+/// What `desk` prints; it has to succeed and say nothing else.
+pub fn printed(words: &[&str]) -> Vec<u8> {
+    let output = desk(words);
+    let said = String::from_utf8_lossy(&output.stderr);
+    assert!(
+        output.status.success() && said.is_empty(),
+        "{words:?}: {} {said}",
+        output.status
+    );
+    output.stdout
+}
+
+/// What `desk` says on standard error; it has to fail, and not by a panic.
+pub fn refused(words: &[&str]) -> String {
+    let output = desk(words);
+    let said = String::from_utf8_lossy(&output.stderr).into_owned();
+    let code = output.status.code();
+    assert!(matches!(code, Some(1 | 2)), "{words:?}: {code:?} {said}");
+    said
+}
+
+/// What `watch` itself prints of a capture.
+pub fn watch(path: &str) -> String {
+    let capture = std::fs::File::open(path).expect("a capture");
+    let output = Command::new(programs().join("watch"))
+        .stdin(capture)
+        .output()
+        .expect("watch runs");
+    String::from_utf8(output.stdout).expect("UTF-8")
+}
+
+/// Writes a file of a test's own and gives its path.
+pub fn file(name: &str, octets: &[u8]) -> String {
+    let path = Path::new(env!("CARGO_TARGET_TMPDIR")).join(name);
+    std::fs::write(&path, octets).expect("a file is written");
+    path.to_str().expect("a path in UTF-8").to_string()
+}
+
+/// The captures of the repository, with their paths.
+pub fn stored_captures() -> Vec<(PathBuf, Vec<u8>)> {
+    let mut captures = Vec::new();
+    for folder in ["../crates/captures/data", "../crates/questions/data"] {
+        let entries = std::fs::read_dir(package().join(folder)).expect("a folder");
+        for entry in entries {
+            let path = entry.expect("an entry").path();
+            if path.extension().is_some_and(|end| end == "capture") {
+                let octets = std::fs::read(&path).expect("a capture");
+                captures.push((path, octets));
+            }
+        }
+    }
+    assert!(captures.len() > 70, "{}", captures.len());
+    captures
+}
