@@ -55,8 +55,8 @@ pub fn part(s: &[u8], from: usize, to: usize) -> &[u8]
     &s[from..to]
 }
 
-// The octets from a place to another are moved to the front; how many they are is answered.
-pub fn shift(buf: &mut [u8], from: usize, to: usize) -> usize
+// The octets from a place to another, which the buffer has, one by one.
+fn move_within(buf: &mut [u8], from: usize, to: usize) -> usize
     requires { ⌜ to ≤ length (now buf) ⌝ }
     ensures { λ r. ⌜ Shifted (now (buf .entry)) from to r (now (buf .exit)) ⌝ }
 {
@@ -68,4 +68,13 @@ pub fn shift(buf: &mut [u8], from: usize, to: usize) -> usize
         j += 1;
     }
     i
+}
+
+// The octets from a place to another, as far as the buffer goes, are moved to the front; how many
+// they are is answered.
+pub fn shift(buf: &mut [u8], from: usize, to: usize) -> usize
+    ensures { λ r. ⌜ Shifted (now (buf .entry)) from to r (now (buf .exit)) ⌝ }
+{
+    let n = within(to, &*buf);
+    move_within(buf, from, n)
 }
