@@ -93,6 +93,7 @@ settingsIn label b =
       period = numberAt 4 b 4;
       followlink = getD b 34 0 % 2;
       followlock = getD b 34 0 / 2 % 2;
+      mode = 0;
     }
 
 -- the act of a kind from 2 on; a CC has 28 octets to write, a CV 44

@@ -231,5 +231,6 @@ pub fn settings_in(label: u32, b: &[u8]) -> Settings
         period: period,
         followlink: marks % 2,
         followlock: marks / 2 % 2,
+        mode: 0,
     }
 }

@@ -57,7 +57,7 @@ abbrev mep : ℕ → MepId
 mep local = record { agi = noAgi; global = 7; node = 8; local = local; kind = 1; group = 0; size = 0 }
 
 abbrev settings : ℕ → Settings
-settings period = record { own = mep 1; expected = mep 2; label = 100; discriminator = 17; period = period; followlink = 0; followlock = 0 }
+settings period = record { own = mep 1; expected = mep 2; label = 100; discriminator = 17; period = period; followlink = 0; followlock = 0; mode = 0 }
 
 abbrev opens : ℕ → ℕ → Call
 opens period t = Open (settings period) t

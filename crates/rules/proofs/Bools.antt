@@ -47,3 +47,8 @@ forced false h = absurd (h refl)
 
 pub true-false : {b : Bool} → b ≡ true → b ≡ false → ⊥
 true-false p q = no-way p q
+
+-- an implication as a test: where its premise holds, its conclusion does
+pub implied : {a b : Bool} → a ≡ true → not a || b ≡ true → b ≡ true
+implied {a = true} {b} p e = e
+implied {a = false} {b} p e = no-way p refl

@@ -7,7 +7,7 @@ use native.Mathlib.Omega.{arith}
 use Rattle.cv.specs.Forms.{mepFits}
 use Rattle.rules.specs.declared.Settings.{Settings}
 use Rattle.rules.specs.Settings.{settingsFit}
-use Rattle.rules.specs.Unfit.{Unfit, labelBelow, labelAbove, noDiscriminator, periodBelow, periodAbove, ownKind, ownAgi, expectedKind, expectedAgi, linkMark, lockMark}
+use Rattle.rules.specs.Unfit.{Unfit, labelBelow, labelAbove, noDiscriminator, periodBelow, periodAbove, ownKind, ownAgi, expectedKind, expectedAgi, linkMark, lockMark, modeAbove}
 use Rattle.rules.proofs.Bools.{forced, true-false}
 use Rattle.rules.proofs.Failing.{at-most}
 use Rattle.rules.proofs.Unfit.{end-fails, settings-unfit}
@@ -22,6 +22,7 @@ pub record SettingsSay (s : Settings) : Type 0 where
   pub expected : mepFits (s .expected .kind) (s .expected .size) ≡ true
   pub followlink : s .followlink < 2
   pub followlock : s .followlock < 2
+  pub mode : s .mode < 3
 
 pub settings-say : (s : Settings) → settingsFit s ≡ true → SettingsSay s
 settings-say s e =
@@ -35,6 +36,7 @@ settings-say s e =
       expected = forced _ (λ f. no (end-fails _ _ expectedKind expectedAgi f));
       followlink = omega (arith, at-most (s .followlink) 1 (λ h. no (linkMark h)));
       followlock = omega (arith, at-most (s .followlock) 1 (λ h. no (lockMark h)));
+      mode = omega (arith, at-most (s .mode) 2 (λ h. no (modeAbove h)));
     }
   where
     no : Unfit s → ⊥

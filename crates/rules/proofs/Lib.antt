@@ -2,8 +2,9 @@ pub mod Bools
 pub mod Failing
 pub mod Unfit
 pub mod Ages
+pub mod Cells
 pub mod States
-pub mod Figure7
+pub mod Figures
 pub mod Codes
 pub mod SameKeys
 pub mod Fitting

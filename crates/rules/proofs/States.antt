@@ -1,14 +1,23 @@
--- States as they are stored, and which inputs can bring a session up.
+-- States as they are stored, and what each input can do to them, in every mode.
 -- Assumes nothing.
-use mathlib.Core.Path.{_≡_, refl}
-use mathlib.Core.Bool.{Bool, true, false}
+use mathlib.Core.Path.{_≡_, refl, sym, ap, _∙_}
+use mathlib.Core.Bool.{Bool, true, false, not, _||_}
+use mathlib.Core.Logic.{_⊎_, inl, inr}
 use Prim.Native.Nat.{ℕ, _≤_}
 use native.Mathlib.Omega.{arith}
+use lib.Dec.{eqb}
+use borrow.Author.Tests.{eqb-true}
+use Rattle.octets.specs.Choice.{bitOf}
+use Rattle.rules.specs.declared.Mode.{Mode}
+use Rattle.rules.specs.declared.Mode.the-variants.{Coordinated, Source}
 use Rattle.rules.specs.declared.State.{State}
 use Rattle.rules.specs.declared.State.the-variants.{AdminDown, Down, NeighborDown, Init, Up}
 use Rattle.rules.specs.declared.Input.{Input}
-use Rattle.rules.specs.declared.Input.the-variants.{Timer, LinkDown, LockReport, Crossed}
+use Rattle.rules.specs.declared.Input.the-variants.{GotAdminDown, GotDown, GotInit, GotUp, Timer, LinkDown, LockReport, Crossed}
 use Rattle.rules.specs.States.{moved, received, heardInput, reported, isLocked, downByNeighbor, isComingUp, stored, stateOf}
+use Rattle.rules.specs.Modes.{movedIn, isSourceUp, isCoordinated}
+use Rattle.rules.proofs.Bools.{implied, refuted, true-false}
+use Rattle.rules.proofs.Cells.{inEveryCell, every-cell}
 
 pub state-stored : (s : State) → stateOf (stored s) ≡ s
 state-stored AdminDown = refl
@@ -31,34 +40,70 @@ reported-fits NeighborDown = omega arith
 reported-fits Init = omega arith
 reported-fits Up = omega arith
 
--- the inputs that only take a session down
+-- the inputs that bring no session up
 pub data Lowering : Input → Type 0 where
   byTimer : Lowering Timer
   byLinkDown : Lowering LinkDown
   byLockReport : Lowering LockReport
   byCrossed : Lowering Crossed
 
+abbrev isLowering : Input → Bool
+isLowering GotAdminDown = false
+isLowering GotDown = false
+isLowering GotInit = false
+isLowering GotUp = false
+isLowering Timer = true
+isLowering LinkDown = true
+isLowering LockReport = true
+isLowering Crossed = true
+
+is-lowering : {i : Input} → Lowering i → isLowering i ≡ true
+is-lowering byTimer = refl
+is-lowering byLinkDown = refl
+is-lowering byLockReport = refl
+is-lowering byCrossed = refl
+
+-- two states, and two tests, are the same if their numbers are
+same-stored : (s t : State) → eqb (stored s) (stored t) ≡ true → s ≡ t
+same-stored s t e = sym (state-stored s) ∙ ap stateOf (eqb-true (stored s) (stored t) e) ∙ state-stored t
+
+pub bit-same : (a b : Bool) → eqb (bitOf a) (bitOf b) ≡ true → a ≡ b
+bit-same true true e = refl
+bit-same true false e = absurd (let z : _≡_ {A = ℕ} 0 1 = cc in omega arith)
+bit-same false true e = absurd (let z : _≡_ {A = ℕ} 0 1 = cc in omega arith)
+bit-same false false e = refl
+
+-- a law of the inputs that bring no session up, by a test over all cells
+lowering-cell : (p : Mode → State → Input → Bool) → inEveryCell (λ m s i. not (isLowering i) || p m s i) ≡ true
+    → (m : Mode) (s : State) {i : Input} → Lowering i → p m s i ≡ true
+lowering-cell p e m s {i} w = implied (is-lowering w) (every-cell (λ n t j. not (isLowering j) || p n t j) e m s i)
+
+-- one that is coming up behind such an input was coming up before
+pub no-rise : (m : Mode) (s : State) {i : Input} → Lowering i → isComingUp (movedIn m s i) ≡ true → isComingUp s ≡ true
+no-rise m s {i} w up = implied up (lowering-cell (λ n t j. not (isComingUp (movedIn n t j)) || isComingUp t) refl m s w)
+
+-- a coordinated session is not coming up behind it at all
 pub lowered : (s : State) {i : Input} → Lowering i → isComingUp (moved s i) ≡ false
-lowered AdminDown byTimer = refl
-lowered Down byTimer = refl
-lowered NeighborDown byTimer = refl
-lowered Init byTimer = refl
-lowered Up byTimer = refl
-lowered AdminDown byLinkDown = refl
-lowered Down byLinkDown = refl
-lowered NeighborDown byLinkDown = refl
-lowered Init byLinkDown = refl
-lowered Up byLinkDown = refl
-lowered AdminDown byLockReport = refl
-lowered Down byLockReport = refl
-lowered NeighborDown byLockReport = refl
-lowered Init byLockReport = refl
-lowered Up byLockReport = refl
-lowered AdminDown byCrossed = refl
-lowered Down byCrossed = refl
-lowered NeighborDown byCrossed = refl
-lowered Init byCrossed = refl
-lowered Up byCrossed = refl
+lowered s {i} w =
+    refuted (isComingUp (moved s i))
+    (λ up. true-false (implied up (lowering-cell (λ n t j. not (isComingUp (movedIn n t j)) || not (isCoordinated n)) refl Coordinated s w)) refl)
+
+-- and a source in UP stays there, one that is not in UP does not come there
+pub source-still : (m : Mode) (s : State) {i : Input} → Lowering i → isSourceUp m (movedIn m s i) ≡ isSourceUp m s
+source-still m s {i} w =
+    bit-same (isSourceUp m (movedIn m s i)) (isSourceUp m s)
+    (lowering-cell (λ n t j. eqb (bitOf (isSourceUp n (movedIn n t j))) (bitOf (isSourceUp n t))) refl m s w)
+
+-- of all inputs a received ADMIN DOWN alone takes a source from UP
+pub source-leaves : (i : Input) → (movedIn Source Up i ≡ Up) ⊎ (i ≡ GotAdminDown)
+source-leaves GotAdminDown = inr refl
+source-leaves GotDown = inl refl
+source-leaves GotInit = inl refl
+source-leaves GotUp = inl refl
+source-leaves Timer = inl refl
+source-leaves LinkDown = inl refl
+source-leaves LockReport = inl refl
+source-leaves Crossed = inl refl
 
 -- a held session takes every received state for TIMER, one that is not held takes each for what it is
 pub held-timer : (state : ℕ) → heardInput true state ≡ Timer
@@ -79,20 +124,21 @@ held-neighbor Init state = refl
 held-neighbor Up state = refl
 
 -- no input locks or unlocks
-pub locked-still : (s : State) → isLocked (moved s Timer) ≡ isLocked s
-locked-still AdminDown = refl
-locked-still Down = refl
-locked-still NeighborDown = refl
-locked-still Init = refl
-locked-still Up = refl
+pub moved-locked : (m : Mode) (s : State) (i : Input) → isLocked (movedIn m s i) ≡ isLocked s
+moved-locked m s i =
+    bit-same (isLocked (movedIn m s i)) (isLocked s) (every-cell (λ n t j. eqb (bitOf (isLocked (movedIn n t j))) (bitOf (isLocked t))) refl m s i)
 
--- TIMER twice is TIMER once
-pub timer-twice : (s : State) → moved (moved s Timer) Timer ≡ moved s Timer
-timer-twice AdminDown = refl
-timer-twice Down = refl
-timer-twice NeighborDown = refl
-timer-twice Init = refl
-timer-twice Up = refl
+-- TIMER twice is TIMER once, also where an input that brings no session up comes between
+pub timer-twice : (m : Mode) (s : State) → movedIn m (movedIn m s Timer) Timer ≡ movedIn m s Timer
+timer-twice m s =
+    same-stored (movedIn m (movedIn m s Timer) Timer) (movedIn m s Timer)
+    (every-cell (λ n t j. eqb (stored (movedIn n (movedIn n t Timer) Timer)) (stored (movedIn n t Timer))) refl m s Timer)
+
+pub timer-around : (m : Mode) (s : State) {i : Input} → Lowering i
+    → movedIn m (movedIn m (movedIn m s Timer) i) Timer ≡ movedIn m (movedIn m s Timer) i
+timer-around m s {i} w =
+    same-stored (movedIn m (movedIn m (movedIn m s Timer) i) Timer) (movedIn m (movedIn m s Timer) i)
+    (lowering-cell (λ n t j. eqb (stored (movedIn n (movedIn n (movedIn n t Timer) j) Timer)) (stored (movedIn n (movedIn n t Timer) j))) refl m s w)
 
 -- a reported state of INIT or UP is a session that is coming up
 pub reported-up : (s : State) → isComingUp s ≡ false → reported s ≤ 1

@@ -10,7 +10,7 @@ use borrow.Author.Tests.{ltb-false, leb-true, leb-false, eqb-true, eqb-false, le
 use Rattle.cv.specs.Forms.{mepFits}
 use Rattle.rules.specs.declared.Settings.{Settings}
 use Rattle.rules.specs.Settings.{settingsFit}
-use Rattle.rules.specs.Unfit.{Unfit, labelBelow, labelAbove, noDiscriminator, periodBelow, periodAbove, ownKind, ownAgi, expectedKind, expectedAgi, linkMark, lockMark}
+use Rattle.rules.specs.Unfit.{Unfit, labelBelow, labelAbove, noDiscriminator, periodBelow, periodAbove, ownKind, ownAgi, expectedKind, expectedAgi, linkMark, lockMark, modeAbove}
 use Rattle.rules.proofs.Bools.{no-way, split}
 use Rattle.rules.proofs.Failing.{one-fails, and-false, no-mark, mark-fails, nought, nought-fails}
 
@@ -38,6 +38,13 @@ agi-fails kind agi k h =
     let low : 2 ≤ kind = omega arith in
     rw (le-ltb kind 2 low, eq-eqb kind 2 k, lt-leb agi 32 h)
 
+-- a mode is 0, 1 or 2
+no-mode : (mode : ℕ) → ltb mode 3 ≡ false → 2 < mode
+no-mode mode e = omega (arith, ltb-false mode 3 e)
+
+mode-fails : (mode : ℕ) → 2 < mode → ltb mode 3 ≡ false
+mode-fails mode h = le-ltb mode 3 (omega arith)
+
 module _ (g : Settings) where
   told : settingsFit g ≡ false → Unfit g
   unfolding settingsFit
@@ -48,7 +55,7 @@ module _ (g : Settings) where
       (one-fails (λ e. periodBelow (leb-false 1000 _ e)) (λ e. periodAbove (leb-false _ 10000000 e))))
       (one-fails
       (one-fails (end-fails _ _ ownKind ownAgi) (end-fails _ _ expectedKind expectedAgi))
-      (one-fails (λ e. linkMark (no-mark _ e)) (λ e. lockMark (no-mark _ e))))
+      (one-fails (λ e. linkMark (no-mark _ e)) (one-fails (λ e. lockMark (no-mark _ e)) (λ e. modeAbove (no-mode _ e)))))
 
   untold : Unfit g → settingsFit g ≡ false
   unfolding settingsFit
@@ -63,6 +70,7 @@ module _ (g : Settings) where
   untold (expectedAgi k h) = simp (agi-fails (g .expected .kind) (g .expected .size) k h, and-false)
   untold (linkMark h) = simp (mark-fails (g .followlink) h, and-false)
   untold (lockMark h) = simp (mark-fails (g .followlock) h, and-false)
+  untold (modeAbove h) = simp (mode-fails (g .mode) h, and-false)
 
   -- 10 of open
   pub settings-unfit : (settingsFit g ≡ false) ↔ Unfit g

@@ -8,9 +8,10 @@ use Rattle.fault.specs.declared.IfId.{IfId}
 use Rattle.fault.specs.declared.IfId.the-variants.{Absent as NoIfId, Present as AnIfId}
 use Rattle.fault.specs.declared.GlobalId.{GlobalId}
 use Rattle.fault.specs.declared.GlobalId.the-variants.{Absent as NoGlobalId, Present as AGlobalId}
-use Rattle.rules.specs.States.{moved}
+use Rattle.rules.specs.Modes.{movedIn}
 use Rattle.rules.specs.declared.Settings.{Settings}
 use Rattle.rules.specs.declared.Key.{Key}
+use Rattle.rules.specs.declared.Mode.{Mode}
 use Rattle.rules.specs.declared.State.{State}
 use Rattle.rules.specs.declared.Input.{Input}
 use Rattle.rules.specs.declared.Input.the-variants.{LinkDown, LockReport}
@@ -83,5 +84,5 @@ faultInput kind = cond (eqb kind 1) LinkDown LockReport
 abbrev pub actsOn : Settings → Fault → Bool
 actsOn settings f = not (f .removed) && follows settings (f .kind) (f .linkdown)
 
-abbrev pub faultState : Bool → State → ℕ → State
-faultState acts from kind = cond acts (moved from (faultInput kind)) from
+abbrev pub faultState : Mode → Bool → State → ℕ → State
+faultState mode acts from kind = cond acts (movedIn mode from (faultInput kind)) from

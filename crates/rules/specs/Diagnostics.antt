@@ -39,9 +39,10 @@ reportOf state crossing loss rdi conditions =
       conditions = conditions;
     }
 
--- the packet that a session writes: multiplier 3, both intervals the period, echo 0, all flags 0 but F where a reply is owed
-abbrev pub packetOut : ℕ → State → Bool → ℕ → ℕ → ℕ → Packet
-packetOut diagnostic state fin my your period =
+-- the packet that a session writes: multiplier 3, the period as transmit interval, the required receive interval by its mode, echo 0, all
+-- flags 0 but F where a reply is owed
+abbrev pub packetOut : ℕ → State → Bool → ℕ → ℕ → ℕ → ℕ → Packet
+packetOut diagnostic state fin my your period required =
     record {
       diagnostic = diagnostic;
       state = reported state;
@@ -53,6 +54,6 @@ packetOut diagnostic state fin my your period =
       my = my;
       your = your;
       transmit = period;
-      receive = period;
+      receive = required;
       echo = 0;
     }

@@ -1,6 +1,7 @@
 pub mod Times
 pub mod States
-pub mod Figure7
+pub mod Modes
+pub mod Figures
 pub mod Settings
 pub mod Conditions
 pub mod Received

@@ -5,6 +5,7 @@ use mathlib.Core.Bool.{Bool, not, _&&_}
 use lib.Dec.{ltb, leb, eqb}
 use Rattle.cv.specs.Forms.{mepFits}
 use Rattle.rules.specs.declared.Settings.{Settings}
+use Rattle.rules.specs.Modes.{modeFits}
 
 abbrev pub labelFits : ℕ → Bool
 labelFits label = leb 16 label && leb label 1048575
@@ -27,11 +28,12 @@ circuitFits label discriminator period = labelFits label && discriminatorFits di
 abbrev pub endsFit : ℕ → ℕ → ℕ → ℕ → Bool
 endsFit own ownAgi expected expectedAgi = mepFits own ownAgi && mepFits expected expectedAgi
 
-abbrev pub marksFit : ℕ → ℕ → Bool
-marksFit followlink followlock = markFits followlink && markFits followlock
+-- the two marks and the mode
+abbrev pub choicesFit : ℕ → ℕ → ℕ → Bool
+choicesFit followlink followlock mode = markFits followlink && (markFits followlock && modeFits mode)
 
 -- refusal 10 on open is for settings that do not fit
 unfoldable pub settingsFit : Settings → Bool
 settingsFit s =
     circuitFits (s .label) (s .discriminator) (s .period)
-    && (endsFit (s .own .kind) (s .own .size) (s .expected .kind) (s .expected .size) && marksFit (s .followlink) (s .followlock))
+    && (endsFit (s .own .kind) (s .own .size) (s .expected .kind) (s .expected .size) && choicesFit (s .followlink) (s .followlock) (s .mode))

@@ -1,4 +1,5 @@
--- How a session moves (RFC 6428, Figure 7): one table over state and input.
+-- How a coordinated session moves (RFC 6428, Figure 7): one table over state and input; and what a state is in numbers. How a source and a sink
+-- differ from it is in `Modes`.
 -- Assumes nothing.
 use Prim.Native.Nat.{ℕ}
 use mathlib.Core.Bool.{Bool, true, false, cond}
@@ -50,7 +51,7 @@ fromUp LinkDown = Down
 fromUp LockReport = Down
 fromUp Crossed = Down
 
--- the moving table; nothing moves a locked session
+-- the moving table of a coordinated session; nothing moves a locked session
 abbrev pub moved : State → Input → State
 moved AdminDown input = AdminDown
 moved Down input = fromDown input

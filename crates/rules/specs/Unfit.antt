@@ -1,5 +1,5 @@
 -- Settings out of range, in the words of the rules paper: label 16 to 1,048,575; local discriminator, not 0; period 1,000 to 10,000,000;
--- MEP-ID type 0, 1 or 2, and of type 2 an AGI length of at most 32; two yes/no marks. This is 10 of open, and 26 of an open record.
+-- MEP-ID type 0, 1 or 2, and of type 2 an AGI length of at most 32; two yes/no marks; mode 0, 1 or 2. This is 10 of open, and 26 of an open record.
 -- Assumes nothing.
 use Prim.Native.Nat.{_<_}
 use mathlib.Core.Path.{_≡_}
@@ -17,3 +17,4 @@ pub data Unfit (g : Settings) : Type 0 where
   expectedAgi : g .expected .kind ≡ 2 → 32 < g .expected .size → Unfit g
   linkMark : 1 < g .followlink → Unfit g
   lockMark : 1 < g .followlock → Unfit g
+  modeAbove : 2 < g .mode → Unfit g

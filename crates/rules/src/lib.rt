@@ -3,6 +3,7 @@
 mod classes;
 mod diagnostics;
 mod keys;
+mod modes;
 mod moves;
 mod ranges;
 mod times;
@@ -19,11 +20,15 @@ pub use keys::fault_input;
 pub use keys::is_followed;
 pub use keys::key_of;
 pub use keys::same_key;
+pub use modes::is_coordinated;
+pub use modes::is_source_up;
+pub use modes::mode_of;
+pub use modes::move_by;
+pub use modes::required_interval;
 pub use moves::coming_up;
 pub use moves::down_by_neighbor;
 pub use moves::heard_input;
 pub use moves::locked;
-pub use moves::move_by;
 pub use moves::report_number;
 pub use moves::state_of;
 pub use moves::stored_number;
@@ -55,8 +60,16 @@ pub enum Input {
     Crossed,
 }
 
+// A session of its own for both directions, or of two sessions, one for each direction, the one that sends
+// or the one that only answers (RFC 6428, 3.7).
+pub enum Mode {
+    Coordinated,
+    Source,
+    Sink,
+}
+
 // Numbers alone, so that a record that holds them can be lent by any caller. `followlink` and `followlock` are
-// the marks follow link-down and follow lock, 0 or 1.
+// the marks follow link-down and follow lock, 0 or 1; `mode` is 0 coordinated, 1 source, 2 sink.
 #[repr(C)]
 pub struct Settings {
     pub own: MepId,
@@ -66,6 +79,7 @@ pub struct Settings {
     pub period: u32,
     pub followlink: u8,
     pub followlock: u8,
+    pub mode: u8,
 }
 
 // What tells one condition from another: type 1 AIS or 2 LKR, an IF_ID, and a Global_ID. `present` is 1

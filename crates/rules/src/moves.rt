@@ -1,10 +1,10 @@
-// The state of a session and how it moves (RFC 6428, Figure 7).
+// The state of a session, and how a coordinated one moves (RFC 6428, Figure 7).
 use crate::Input;
 use crate::State;
 ghost use mathlib.Core.Path.{_≡_};
 ghost use Rattle.rules.specs.States.{fromDown, fromNeighborDown, fromInit, fromUp, moved, received, heardInput, reported, isLocked, downByNeighbor, isComingUp, stored, stateOf};
 
-fn from_down(input: Input) -> State
+pub(crate) fn from_down(input: Input) -> State
     ensures { λ r. ⌜ r ≡ fromDown input ⌝ }
 {
     match input {
@@ -19,7 +19,7 @@ fn from_down(input: Input) -> State
     }
 }
 
-fn from_neighbor_down(input: Input) -> State
+pub(crate) fn from_neighbor_down(input: Input) -> State
     ensures { λ r. ⌜ r ≡ fromNeighborDown input ⌝ }
 {
     match input {
@@ -34,7 +34,7 @@ fn from_neighbor_down(input: Input) -> State
     }
 }
 
-fn from_init(input: Input) -> State
+pub(crate) fn from_init(input: Input) -> State
     ensures { λ r. ⌜ r ≡ fromInit input ⌝ }
 {
     match input {
@@ -49,7 +49,7 @@ fn from_init(input: Input) -> State
     }
 }
 
-fn from_up(input: Input) -> State
+pub(crate) fn from_up(input: Input) -> State
     ensures { λ r. ⌜ r ≡ fromUp input ⌝ }
 {
     match input {
@@ -64,8 +64,8 @@ fn from_up(input: Input) -> State
     }
 }
 
-// The moving table.
-pub fn move_by(from: State, input: Input) -> State
+// The moving table of a coordinated session.
+pub(crate) fn coordinated_move(from: State, input: Input) -> State
     ensures { λ r. ⌜ r ≡ moved from input ⌝ }
 {
     match from {

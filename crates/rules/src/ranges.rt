@@ -1,7 +1,7 @@
 // What an opening gives, in range or not.
 use crate::Settings;
 ghost use mathlib.Core.Path.{_≡_};
-ghost use Rattle.rules.specs.Settings.{circuitFits, endsFit, marksFit, settingsFit};
+ghost use Rattle.rules.specs.Settings.{circuitFits, endsFit, choicesFit, settingsFit};
 
 fn circuit_fits(label: u32, discriminator: u32, period: u32) -> bool
     ensures { λ r. ⌜ r ≡ circuitFits label discriminator period ⌝ }
@@ -28,13 +28,17 @@ fn ends_fit(own: u16, agi: u8, expected: u16, other: u8) -> bool
     octets::both(cv::mep_fits(own, agi), cv::mep_fits(expected, other))
 }
 
-fn marks_fit(followlink: u8, followlock: u8) -> bool
-    ensures { λ r. ⌜ r ≡ marksFit followlink followlock ⌝ }
+// The two marks and the mode.
+fn choices_fit(followlink: u8, followlock: u8, mode: u8) -> bool
+    ensures { λ r. ⌜ r ≡ choicesFit followlink followlock mode ⌝ }
 {
     if 2 <= followlink {
         return false;
     }
-    followlock < 2
+    if 2 <= followlock {
+        return false;
+    }
+    mode < 3
 }
 
 // Every setting in its range.
@@ -43,7 +47,7 @@ pub fn settings_fit(s: Settings) -> bool
 {
     if circuit_fits(s.label, s.discriminator, s.period) {
         let ends = ends_fit(s.own.kind, s.own.size, s.expected.kind, s.expected.size);
-        return octets::both(ends, marks_fit(s.followlink, s.followlock));
+        return octets::both(ends, choices_fit(s.followlink, s.followlock, s.mode));
     }
     false
 }

@@ -7,32 +7,44 @@ use Rattle.octets.proofs.Chain.{and-both}
 use Rattle.rules.specs.declared.State.{State}
 use Rattle.rules.specs.declared.Input.the-variants.{Timer}
 use Rattle.rules.specs.Times.{past, detectionTime}
-use Rattle.rules.specs.States.{moved, isLocked, isComingUp, stored, stateOf}
+use Rattle.rules.specs.States.{isLocked, isComingUp, stored, stateOf}
+use Rattle.rules.specs.Modes.{modeIn, isSourceUp}
 use Rattle.rules.proofs.Ages.{past-later}
-use Rattle.rules.proofs.Bools.{split, both-true, no-way}
-use Rattle.rules.proofs.States.{state-stored, locked-still, timer-twice, Lowering, byTimer, lowered}
+use Rattle.rules.proofs.Bools.{split, both-true}
+use Rattle.rules.proofs.States.{state-stored, moved-locked, timer-twice, byTimer, no-rise, source-still}
 use Rattle.session.specs.declared.Session.{Session}
-use Rattle.session.specs.Queries.{lockedIn, lossAt, stateAt}
+use Rattle.session.specs.Queries.{lockedIn, sourceUpIn, lossAt, stateAt}
 use Rattle.session.specs.Steps.{settled}
 
 -- a loss at one clock is a loss at every later one
 pub loss-later : (s : Session) (now later : ℕ) → now ≤ later → lossAt s now ≡ true → lossAt s later ≡ true
 unfolding lossAt
 loss-later s now later h e =
-    let a = and-both (not (lockedIn s)) (past (s .timed) (detectionTime (s .settings .period) (s .peer .multiplier)) now) e in
-    both-true (a .0) (past-later (s .timed) (detectionTime (s .settings .period) (s .peer .multiplier)) now later h (a .1))
+    let span = detectionTime (s .settings .period) (s .peer .multiplier) in
+    let a = and-both (not (lockedIn s)) (not (sourceUpIn s) && past (s .timed) span now) e in
+    let b = and-both (not (sourceUpIn s)) (past (s .timed) span now) (a .1) in
+    both-true (a .0) (both-true (b .0) (past-later (s .timed) span now later h (b .1)))
 
 -- settling neither locks nor unlocks
 settled-locked : (s : Session) (now : ℕ) → lockedIn (settled s now) ≡ lockedIn s
 unfolding settled stateAt
 settled-locked s now =
     ap isLocked (state-stored (stateAt s now))
-    ∙ split (lossAt s now) (λ e. rw e (locked-still (stateOf (s .state)))) (λ e. rw e)
+    ∙ split (lossAt s now) (λ e. rw e (moved-locked (modeIn (s .settings)) (stateOf (s .state)) Timer)) (λ e. rw e)
+
+-- nor does it make a source UP or take it from there
+settled-source : (s : Session) (now : ℕ) → sourceUpIn (settled s now) ≡ sourceUpIn s
+unfolding settled stateAt
+settled-source s now =
+    let mode = modeIn (s .settings) in
+    ap (isSourceUp mode) (state-stored (stateAt s now))
+    ∙ split (lossAt s now) (λ e. rw e (source-still mode (stateOf (s .state)) byTimer)) (λ e. rw e)
 
 -- so the loss of a settled record is that of the record
 pub settled-loss : (s : Session) (now later : ℕ) → lossAt (settled s now) later ≡ lossAt s later
 unfolding lossAt settled
-settled-loss s now later = ap (λ b. not b && past (s .timed) (detectionTime (s .settings .period) (s .peer .multiplier)) later) (settled-locked s now)
+settled-loss s now later =
+    λ i. not (settled-locked s now i) && (not (settled-source s now i) && past (s .timed) (detectionTime (s .settings .period) (s .peer .multiplier)) later)
 
 -- it starts from the state at that clock
 settled-start : (s : Session) (now : ℕ) → stateOf (settled s now .state) ≡ stateAt s now
@@ -41,11 +53,11 @@ settled-start s now = state-stored (stateAt s now)
 
 -- and its state at a later clock is the record's
 pub settled-state : (s : Session) (now later : ℕ) → now ≤ later → stateAt (settled s now) later ≡ stateAt s later
-unfolding stateAt
+unfolding stateAt settled
 settled-state s now later h =
     let from = stateOf (s .state) in
     rw (settled-loss s now later, settled-start s now)
-    (split (lossAt s now) (λ a. rw (a, loss-later s now later h a) (timer-twice from)) (λ a. rw a))
+    (split (lossAt s now) (λ a. rw (a, loss-later s now later h a) (timer-twice (modeIn (s .settings)) from)) (λ a. rw a))
 
 -- settling twice is settling at the later
 pub settled-twice : (s : Session) (now later : ℕ) → now ≤ later → settled (settled s now) later ≡ settled s later
@@ -66,5 +78,5 @@ pub coming-up-before : (s : Session) (now : ℕ) → isComingUp (stateAt s now) 
 unfolding stateAt
 coming-up-before s now e =
     split (lossAt s now)
-    (λ a. no-way (rw a at e) (lowered (stateOf (s .state)) byTimer))
+    (λ a. no-rise (modeIn (s .settings)) (stateOf (s .state)) byTimer (rw a at e))
     (λ a. rw a at e)

@@ -13,14 +13,16 @@ use Rattle.fault.specs.declared.Fault.{Fault}
 use Rattle.rules.specs.declared.Settings.{Settings}
 use Rattle.rules.specs.declared.State.{State}
 use Rattle.rules.specs.declared.State.the-variants.{Down}
+use Rattle.rules.specs.declared.Input.{Input}
 use Rattle.rules.specs.declared.Input.the-variants.{Crossed, LinkDown, LockReport}
-use Rattle.rules.specs.States.{moved, heardInput, isComingUp, stored, stateOf}
+use Rattle.rules.specs.States.{heardInput, isComingUp, stored, stateOf}
+use Rattle.rules.specs.Modes.{modeIn, movedIn}
 use Rattle.rules.specs.Settings.{settingsFit}
 use Rattle.rules.specs.Conditions.{faultInput, actsOn, faultState}
 use Rattle.rules.proofs.Bools.{split, or-cases, or-left, or-right, no-way, forced, true-false}
 use Rattle.rules.proofs.Failing.{at-most, both-fail}
 use Rattle.rules.proofs.Unfit.{settings-unfit}
-use Rattle.rules.proofs.States.{state-stored, stored-fits, lowered, byLinkDown, byLockReport, byCrossed}
+use Rattle.rules.proofs.States.{state-stored, stored-fits, Lowering, no-rise, byLinkDown, byLockReport, byCrossed}
 use Rattle.conditions.specs.declared.Conditions.{Conditions}
 use Rattle.conditions.specs.Soundness.{placeSound, placesSound, clash, noClash, conditionsSound}
 use Rattle.conditions.specs.Taking.{takenIn}
@@ -199,7 +201,7 @@ module _ (s : Session) (clock reading : ℕ) (h : clock ≤ reading) (sound : se
       says-sound (heardCc s reading p) reading
       (record {
         settings = x .settings;
-        state = stored-fits (moved (stateAt s reading) (heardInput (heldAt s reading) (p .state)));
+        state = stored-fits (movedIn (modeIn (s .settings)) (stateAt s reading) (heardInput (heldAt s reading) (p .state)));
         multiplier = m;
         diagnostic = d;
         owed = bit-most (p .poll || eqb (s .peer .owed) 1);
@@ -228,6 +230,10 @@ module _ (s : Session) (clock reading : ℕ) (h : clock ≤ reading) (sound : se
         remote = remote-kept (stateAt s reading) (coming-up-before s reading);
       })
 
+  -- an input that brings no session up does not bring this one up either
+  not-raised : {i : Input} → Lowering i → isComingUp (movedIn (modeIn (s .settings)) (stateAt s reading) i) ≡ true → isComingUp (stateOf (s .state)) ≡ true
+  not-raised w e = coming-up-before s reading (no-rise (modeIn (s .settings)) (stateAt s reading) w e)
+
   pub crossed-sound : sessionSound (crossedAt s reading) reading ≡ true
   unfolding crossedAt
   crossed-sound =
@@ -235,7 +241,7 @@ module _ (s : Session) (clock reading : ℕ) (h : clock ≤ reading) (sound : se
       says-sound (crossedAt s reading) reading
       (record {
         settings = x .settings;
-        state = stored-fits (moved (stateAt s reading) Crossed);
+        state = stored-fits (movedIn (modeIn (s .settings)) (stateAt s reading) Crossed);
         multiplier = x .multiplier;
         diagnostic = x .diagnostic;
         owed = x .owed;
@@ -243,15 +249,13 @@ module _ (s : Session) (clock reading : ℕ) (h : clock ≤ reading) (sound : se
         timed = x .timed;
         crossed = le-leb reading reading (omega arith);
         conditions = x .conditions;
-        remote = remote-kept (moved (stateAt s reading) Crossed) (λ e. no-way e (lowered (stateAt s reading) byCrossed));
+        remote = remote-kept (movedIn (modeIn (s .settings)) (stateAt s reading) Crossed) (not-raised byCrossed);
       })
 
   -- LDI and LKR bring no session up
-  fault-up : (acts : Bool) (kind : ℕ) → isComingUp (faultState acts (stateAt s reading) kind) ≡ true → isComingUp (stateOf (s .state)) ≡ true
+  fault-up : (acts : Bool) (kind : ℕ) → isComingUp (faultState (modeIn (s .settings)) acts (stateAt s reading) kind) ≡ true → isComingUp (stateOf (s .state)) ≡ true
   fault-up true kind e =
-      split (eqb kind 1)
-      (λ a. no-way (rw a at e) (lowered (stateAt s reading) byLinkDown))
-      (λ a. no-way (rw a at e) (lowered (stateAt s reading) byLockReport))
+      split (eqb kind 1) (λ a. not-raised byLinkDown (rw a at e)) (λ a. not-raised byLockReport (rw a at e))
   fault-up false kind e = coming-up-before s reading e
 
   -- a fault message that its reader accepts
@@ -259,7 +263,7 @@ module _ (s : Session) (clock reading : ℕ) (h : clock ≤ reading) (sound : se
   unfolding faultTaken
   fault-sound f k l u =
       let x = at-reading in
-      let to = faultState (actsOn (s .settings) f) (stateAt s reading) (f .kind) in
+      let to = faultState (modeIn (s .settings)) (actsOn (s .settings) f) (stateAt s reading) (f .kind) in
       says-sound (faultTaken s reading f) reading
       (record {
         settings = x .settings;

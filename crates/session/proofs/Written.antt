@@ -19,6 +19,9 @@ use Rattle.cv.proofs.Octets.{front-whole, cv-length}
 use Rattle.cv.proofs.RoundTrip as Cv
 use Rattle.rules.specs.States.{reported, isComingUp, downByNeighbor, stateOf}
 use Rattle.rules.specs.Diagnostics.{diagnosticOf}
+use Rattle.rules.specs.declared.Mode.{Mode}
+use Rattle.rules.specs.declared.Mode.the-variants.{Coordinated, Source, Sink}
+use Rattle.rules.specs.Modes.{modeIn, requiredInterval}
 use Rattle.rules.proofs.Bools.{split, refuted}
 use Rattle.rules.proofs.States.{reported-fits, reported-up}
 use Rattle.rules.proofs.Fitting.{SettingsSay, settings-say}
@@ -37,6 +40,11 @@ diagnostic-small false false false true neighbor = omega arith
 diagnostic-small false false false false true = omega arith
 diagnostic-small false false false false false = omega arith
 
+required-most : (m : Mode) (period : ℕ) → requiredInterval m period ≤ period
+required-most Coordinated period = omega arith
+required-most Source period = omega arith
+required-most Sink period = omega arith
+
 module _ (s : Session) (clock : ℕ) (sound : sessionSound s clock ≡ true) (held : Held s) where
   settings : SettingsSay (s .settings)
   settings = settings-say (s .settings) (sound-says s clock sound .settings)
@@ -50,7 +58,7 @@ module _ (s : Session) (clock : ℕ) (sound : sessionSound s clock ≡ true) (he
         my = held .discriminator;
         your = held .remote;
         transmit = omega (arith, x .periodHigh);
-        receive = omega (arith, x .periodHigh);
+        receive = omega (arith, x .periodHigh, required-most (modeIn (s .settings)) (s .settings .period));
         echo = omega arith;
       }
 

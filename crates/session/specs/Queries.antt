@@ -11,7 +11,8 @@ use Rattle.cv.specs.Cv.{cvOctets, cvSize, cvWhole}
 use Rattle.rules.specs.declared.State.{State}
 use Rattle.rules.specs.declared.Input.the-variants.{Timer}
 use Rattle.rules.specs.Times.{past, within, detectionTime, crossingTime}
-use Rattle.rules.specs.States.{moved, isLocked, downByNeighbor, stateOf}
+use Rattle.rules.specs.States.{isLocked, downByNeighbor, stateOf}
+use Rattle.rules.specs.Modes.{modeIn, movedIn, isSourceUp, isCoordinated, requiredInterval}
 use Rattle.rules.specs.Diagnostics.{remoteDefect, diagnosticOf, reportOf, packetOut}
 use Rattle.conditions.specs.Standing.{countAt, anyFollowed}
 use Rattle.session.specs.declared.Session.{Session}
@@ -20,21 +21,29 @@ use Rattle.rules.specs.declared.Report.{Report}
 abbrev pub lockedIn : Session → Bool
 lockedIn s = isLocked (stateOf (s .state))
 
--- loss: not locked, and more than period times multiplier since the date that the session is timed from
+-- a source in UP
+abbrev pub sourceUpIn : Session → Bool
+sourceUpIn s = isSourceUp (modeIn (s .settings)) (stateOf (s .state))
+
+-- loss: not locked, no source in UP, and more than period times multiplier since the date that the session is timed from
 unfoldable pub lossAt : Session → ℕ → Bool
-lossAt s now = not (lockedIn s) && past (s .timed) (detectionTime (s .settings .period) (s .peer .multiplier)) now
+lossAt s now = not (lockedIn s) && (not (sourceUpIn s) && past (s .timed) (detectionTime (s .settings .period) (s .peer .multiplier)) now)
 
 -- crossing: a crossed message less than 3,500,000 before now
 unfoldable pub crossingAt : Session → ℕ → Bool
 crossingAt s now = eqb (s .crossing) 1 && within (s .crossed) crossingTime now
 
--- held down: a crossing stands, or a condition that the session follows
+-- a crossing stands, or a condition that the session follows
+unfoldable pub defectAt : Session → ℕ → Bool
+defectAt s now = crossingAt s now || anyFollowed (s .settings) (s .conditions) now
+
+-- held down: a coordinated session while one of these stands
 unfoldable pub heldAt : Session → ℕ → Bool
-heldAt s now = crossingAt s now || anyFollowed (s .settings) (s .conditions) now
+heldAt s now = isCoordinated (modeIn (s .settings)) && defectAt s now
 
 -- the state after TIMER, which a session with a loss has been given at the latest now
 unfoldable pub stateAt : Session → ℕ → State
-stateAt s now = cond (lossAt s now) (moved (stateOf (s .state)) Timer) (stateOf (s .state))
+stateAt s now = cond (lossAt s now) (movedIn (modeIn (s .settings)) (stateOf (s .state)) Timer) (stateOf (s .state))
 
 -- the report at a clock
 unfoldable pub reportAt : Session → ℕ → Report
@@ -48,7 +57,9 @@ diagnosticAt s now =
 
 -- the packet to write
 unfoldable pub packetAt : Session → ℕ → Bool → Packet
-packetAt s now fin = packetOut (diagnosticAt s now) (stateAt s now) fin (s .settings .discriminator) (s .peer .remote) (s .settings .period)
+packetAt s now fin =
+    packetOut (diagnosticAt s now) (stateAt s now) fin (s .settings .discriminator) (s .peer .remote) (s .settings .period)
+    (requiredInterval (modeIn (s .settings)) (s .settings .period))
 
 -- a CC carries F when a reply is owed; a CV never does, and carries the session's own MEP-ID
 unfoldable pub ccOctetsAt : Session → ℕ → List ℕ

@@ -9,7 +9,8 @@ use Rattle.fault.specs.declared.Fault.{Fault}
 use Rattle.rules.specs.declared.Settings.{Settings}
 use Rattle.rules.specs.declared.State.the-variants.{AdminDown, Down}
 use Rattle.rules.specs.declared.Input.the-variants.{Crossed}
-use Rattle.rules.specs.States.{moved, heardInput, stored}
+use Rattle.rules.specs.States.{heardInput, stored}
+use Rattle.rules.specs.Modes.{modeIn, movedIn}
 use Rattle.rules.specs.Conditions.{actsOn, faultState}
 use Rattle.conditions.specs.Taking.{noConditions, takenIn}
 use Rattle.session.specs.declared.Session.{Session}
@@ -87,7 +88,7 @@ heardCc s reading p =
         diagnostic = p .diagnostic;
         owed = bitOf (p .poll || eqb (s .peer .owed) 1);
       };
-      state = stored (moved (stateAt s reading) (heardInput (heldAt s reading) (p .state)));
+      state = stored (movedIn (modeIn (s .settings)) (stateAt s reading) (heardInput (heldAt s reading) (p .state)));
       crossing = s .crossing;
     }
 
@@ -104,7 +105,7 @@ heardCv s reading =
       crossing = s .crossing;
     }
 
--- a crossed message: INIT and UP become DOWN, and the crossing is dated; the detection time goes on
+-- a crossed message: INIT becomes DOWN, and UP of all but a source; the crossing is dated, and the detection time goes on
 unfoldable pub crossedAt : Session → ℕ → Session
 crossedAt s reading =
     record {
@@ -113,7 +114,7 @@ crossedAt s reading =
       conditions = s .conditions;
       settings = s .settings;
       peer = s .peer;
-      state = stored (moved (stateAt s reading) Crossed);
+      state = stored (movedIn (modeIn (s .settings)) (stateAt s reading) Crossed);
       crossing = 1;
     }
 
@@ -126,7 +127,7 @@ faultTaken s reading f =
       conditions = takenIn (s .conditions) f reading;
       settings = s .settings;
       peer = s .peer;
-      state = stored (faultState (actsOn (s .settings) f) (stateAt s reading) (f .kind));
+      state = stored (faultState (modeIn (s .settings)) (actsOn (s .settings) f) (stateAt s reading) (f .kind));
       crossing = s .crossing;
     }
 

@@ -3,6 +3,7 @@ use crate::Peer;
 use crate::Session;
 use crate::queries::held_at;
 use crate::queries::is_locked;
+use crate::queries::mode_in;
 use crate::queries::state_at;
 use crate::steps::fault_state;
 use bfd::Packet;
@@ -94,7 +95,8 @@ fn cc_live(s: Session, reading: u64, p: Packet) -> Live
     ensures { λ r. ⌜ r ≡ liveOf (heardCc s reading p) ⌝ }
 {
     let held = held_at(s, reading);
-    let to = rules::move_by(state_at(s, reading), rules::heard_input(held, p.state));
+    let input = rules::heard_input(held, p.state);
+    let to = rules::move_by(mode_in(s), state_at(s, reading), input);
     let before = s.peer.owed == 1;
     let peer = Peer {
         remote: p.my,
@@ -126,7 +128,7 @@ fn cv_live(s: Session, reading: u64) -> Live
 fn crossed_live(s: Session, reading: u64) -> Live
     ensures { λ r. ⌜ r ≡ liveOf (crossedAt s reading) ⌝ }
 {
-    let to = rules::move_by(state_at(s, reading), Input::Crossed);
+    let to = rules::move_by(mode_in(s), state_at(s, reading), Input::Crossed);
     let number = rules::stored_number(to);
     let mut live = live_of(s);
     live.crossed = reading;

@@ -6,13 +6,14 @@ use gach::CC_CHANNEL;
 use octets::bit;
 use octets::both;
 use rules::Input;
+use rules::Mode;
 use rules::Report;
 use rules::State;
 ghost use mathlib.Core.Path.{_≡_};
 ghost use mathlib.Core.Bool.{cond, not};
-ghost use Rattle.rules.specs.States.{moved};
+ghost use Rattle.rules.specs.Modes.{modeIn, movedIn};
 ghost use Rattle.rules.specs.declared.Input.the-variants.{Timer};
-ghost use Rattle.session.specs.Queries.{lockedIn, lossAt, crossingAt, heldAt, stateAt, reportAt, diagnosticAt, packetAt, ccOctetsAt, cvSizeOf, cvWholeAt};
+ghost use Rattle.session.specs.Queries.{lockedIn, sourceUpIn, lossAt, crossingAt, defectAt, heldAt, stateAt, reportAt, diagnosticAt, packetAt, ccOctetsAt, cvSizeOf, cvWholeAt};
 
 pub fn is_locked(s: Session) -> bool
     ensures { λ r. ⌜ r ≡ lockedIn s ⌝ }
@@ -20,13 +21,27 @@ pub fn is_locked(s: Session) -> bool
     rules::locked(rules::state_of(s.state))
 }
 
-// A loss: more than the detection time, and not locked.
+pub(crate) fn mode_in(s: Session) -> Mode
+    ensures { λ r. ⌜ r ≡ modeIn (s .settings) ⌝ }
+{
+    rules::mode_of(s.settings.mode)
+}
+
+fn source_up_in(s: Session) -> bool
+    ensures { λ r. ⌜ r ≡ sourceUpIn s ⌝ }
+{
+    rules::is_source_up(mode_in(s), rules::state_of(s.state))
+}
+
+// A loss: more than the detection time, not locked, and no source in UP.
 pub fn loss_at(s: Session, now: u64) -> bool
     ensures { λ r. ⌜ r ≡ lossAt s now ⌝ }
 {
     let locked = is_locked(s);
+    let up = source_up_in(s);
     let span = rules::detection_time(s.settings.period, s.peer.multiplier);
-    both(!locked, rules::is_past(s.timed, span, now))
+    let past = rules::is_past(s.timed, span, now);
+    both(!locked, both(!up, past))
 }
 
 // A crossing: less than its time since the last crossed message.
@@ -37,11 +52,10 @@ pub fn crossing_at(s: Session, now: u64) -> bool
     both(marked, rules::is_within(s.crossed, 3_500_000, now))
 }
 
-// Held down: a crossing stands, or a condition that the session follows. Every heard CC asks, and
-// most sessions have no condition, or none that they follow: that is asked first, of the record
-// where it lies.
-pub(crate) fn held_at(s: Session, now: u64) -> bool
-    ensures { λ r. ⌜ r ≡ heldAt s now ⌝ }
+// A crossing stands, or a condition that the session follows. Every heard CC asks, and most sessions
+// have no condition, or none that they follow: that is asked first, of the record where it lies.
+fn defect_at(s: Session, now: u64) -> bool
+    ensures { λ r. ⌜ r ≡ defectAt s now ⌝ }
 {
     if crossing_at(s, now) {
         return true;
@@ -63,11 +77,19 @@ pub(crate) fn held_at(s: Session, now: u64) -> bool
     false
 }
 
-fn after_timer(loss: bool, from: State) -> State
-    ensures { λ r. ⌜ r ≡ cond loss (moved from Timer) from ⌝ }
+// Held down: a coordinated session with such a defect.
+pub(crate) fn held_at(s: Session, now: u64) -> bool
+    ensures { λ r. ⌜ r ≡ heldAt s now ⌝ }
+{
+    let coordinated = rules::is_coordinated(mode_in(s));
+    both(coordinated, defect_at(s, now))
+}
+
+fn after_timer(mode: Mode, loss: bool, from: State) -> State
+    ensures { λ r. ⌜ r ≡ cond loss (movedIn mode from Timer) from ⌝ }
 {
     if loss {
-        return rules::move_by(from, Input::Timer);
+        return rules::move_by(mode, from, Input::Timer);
     }
     from
 }
@@ -77,7 +99,7 @@ pub fn state_at(s: Session, now: u64) -> State
     ensures { λ r. ⌜ r ≡ stateAt s now ⌝ }
 {
     let loss = loss_at(s, now);
-    after_timer(loss, rules::state_of(s.state))
+    after_timer(mode_in(s), loss, rules::state_of(s.state))
 }
 
 // The seven numbers of the report.
@@ -126,6 +148,7 @@ pub fn packet_at(s: Session, now: u64, fin: bool) -> Packet
     ensures { λ r. ⌜ r ≡ packetAt s now fin ⌝ }
 {
     let state = state_at(s, now);
+    let required = rules::required_interval(mode_in(s), s.settings.period);
     Packet {
         diagnostic: diagnostic_at(s, now),
         state: rules::report_number(state),
@@ -137,7 +160,7 @@ pub fn packet_at(s: Session, now: u64, fin: bool) -> Packet
         my: s.settings.discriminator,
         your: s.peer.remote,
         transmit: s.settings.period,
-        receive: s.settings.period,
+        receive: required,
         echo: 0,
     }
 }

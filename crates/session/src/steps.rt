@@ -2,14 +2,17 @@
 use crate::Peer;
 use crate::Session;
 use crate::queries::is_locked;
+use crate::queries::mode_in;
 use crate::queries::state_at;
 use fault::Fault;
+use rules::Mode;
 use rules::Settings;
 use rules::State;
 ghost use mathlib.Core.Path.{_≡_};
 ghost use mathlib.Core.Bool.{cond};
 ghost use Rattle.rules.specs.declared.State.the-variants.{Down};
 ghost use Rattle.rules.specs.States.{stored};
+ghost use Rattle.rules.specs.Modes.{modeIn};
 ghost use Rattle.rules.specs.Conditions.{actsOn, faultState};
 ghost use Rattle.session.specs.Queries.{stateAt};
 ghost use Rattle.session.specs.Steps.{newSession, lockedBy, unlockedAt, replySettled};
@@ -99,22 +102,22 @@ fn follows_fault(settings: Settings, f: Fault) -> bool
     rules::is_followed(settings.followlink, settings.followlock, f.kind, f.linkdown)
 }
 
-fn state_by_fault(acts: bool, from: State, kind: u8) -> State
-    ensures { λ r. ⌜ r ≡ faultState acts from kind ⌝ }
+fn state_by_fault(mode: Mode, acts: bool, from: State, kind: u8) -> State
+    ensures { λ r. ⌜ r ≡ faultState mode acts from kind ⌝ }
 {
     if acts {
-        return rules::move_by(from, rules::fault_input(kind));
+        return rules::move_by(mode, from, rules::fault_input(kind));
     }
     from
 }
 
 // The state that an accepted fault message leaves, as it is stored.
 pub(crate) fn fault_state(s: Session, reading: u64, f: Fault) -> u8
-    ensures { λ r. ⌜ r ≡ stored (faultState (actsOn (s .settings) f) (stateAt s reading) (f .kind)) ⌝ }
+    ensures { λ r. ⌜ r ≡ stored (faultState (modeIn (s .settings)) (actsOn (s .settings) f) (stateAt s reading) (f .kind)) ⌝ }
 {
     let settings = s.settings;
     let acts = follows_fault(settings, f);
-    let to = state_by_fault(acts, state_at(s, reading), f.kind);
+    let to = state_by_fault(mode_in(s), acts, state_at(s, reading), f.kind);
     rules::stored_number(to)
 }
 

@@ -115,6 +115,7 @@ absent =
       period = 0;
       followlink = 0;
       followlock = 0;
+      mode = 0;
     })
     0
 

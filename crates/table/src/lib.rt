@@ -57,6 +57,7 @@ pub fn absent() -> Session
         period: 0,
         followlink: 0,
         followlock: 0,
+        mode: 0,
     };
     session::opened_at(settings, 0)
 }

@@ -8,5 +8,5 @@ unfolding settingsFit
 settings-fit-spec =
     tie.close
     (tie.spec (λ c κs. search needs) (λ c κs. search needs) (λ c κs. search needs) (λ c κs. search needs)
-    (λ c. rw (c .both .ensures, c .before .marks-fit .ensures, c .before .before .ends-fit .ensures, ← c .before .before .before .before .circuit-fits .ensures, c .before .before .before .if1 .taken))
+    (λ c. rw (c .both .ensures, c .before .choices-fit .ensures, c .before .before .ends-fit .ensures, ← c .before .before .before .before .circuit-fits .ensures, c .before .before .before .if1 .taken))
     (λ c. rw (← c .before .circuit-fits .ensures, c .if1 .left)))

@@ -7,5 +7,5 @@ pub packet-at-spec : {M : Type 1} → statement M
 unfolding packetAt
 packet-at-spec =
     tie.close
-    (tie.spec (λ c κs. search needs) (λ c κs. search needs) (λ c κs. search needs)
-    (λ c. rw (c .report-number .ensures, c .before .diagnostic-at .ensures, c .before .before .state-at .ensures)))
+    (tie.spec (λ c κs. search needs) (λ c κs. search needs) (λ c κs. search needs) (λ c κs. search needs) (λ c κs. search needs)
+    (λ c. rw (c .report-number .ensures, c .before .diagnostic-at .ensures, c .before .before .required-interval .ensures, c .before .before .before .mode-in .ensures, c .before .before .before .before .state-at .ensures)))

@@ -1,5 +1,6 @@
--- Figure 7 of RFC 6428 as it is drawn: three boxes, eight arrows, and the inputs that stand at each; and the one arrow that the rules add.
--- It says again what the moving table of `States` says, from the drawing and in the paper's states alone; that the two agree is proved.
+-- Figures 7, 8 and 9 of RFC 6428 as they are drawn: of each three boxes, eight arrows, and the inputs that stand at each; and the one arrow
+-- that the rules add to all three. It says again what the moving tables of `States` and `Modes` say, from the drawings and in the paper's
+-- states alone; that the two agree is proved.
 -- Assumes nothing.
 use Prim.Native.Nat.{ℕ}
 use mathlib.Core.Bool.{Bool, cond, _&&_}
@@ -7,6 +8,8 @@ use mathlib.Core.List.{List, [], _∷_}
 use lib.Dec.{eqb}
 use Rattle.rules.specs.Lists.{any}
 use Rattle.rules.specs.States.{received}
+use Rattle.rules.specs.declared.Mode.{Mode}
+use Rattle.rules.specs.declared.Mode.the-variants.{Coordinated, Source, Sink}
 use Rattle.rules.specs.declared.Input.{Input}
 use Rattle.rules.specs.declared.Input.the-variants.{GotAdminDown, GotDown, GotInit, GotUp, Timer, LinkDown, LockReport, Crossed}
 
@@ -16,8 +19,9 @@ pub data Arrow : Type 0 where
 
 -- DOWN is 1, INIT 2, UP 3, as a box and as a state that is received; ADMIN DOWN, 0, is received and has no box. LDI is `LinkDown`, LKR
 -- `LockReport`, MIS-CONNECTIVITY `Crossed`, which the rules paper gives for a crossed CC as for a crossed CV.
-abbrev pub arrows : List Arrow
-arrows =
+-- Figure 7 is that of coordinated sessions, Figure 8 the source's, Figure 9 the sink's.
+abbrev pub drawn : Mode → List Arrow
+drawn Coordinated =
     Leads 1 (received 3 ∷ received 0 ∷ Timer ∷ LinkDown ∷ LockReport ∷ []) 1
     ∷ Leads 1 (received 1 ∷ []) 2
     ∷ Leads 1 (received 2 ∷ []) 3
@@ -27,8 +31,28 @@ arrows =
     ∷ Leads 3 (Crossed ∷ received 0 ∷ received 1 ∷ Timer ∷ LinkDown ∷ LockReport ∷ []) 1
     ∷ Leads 3 (received 2 ∷ received 3 ∷ []) 3
     ∷ []
+drawn Source =
+    Leads 1 (received 3 ∷ received 0 ∷ Timer ∷ LinkDown ∷ LockReport ∷ []) 1
+    ∷ Leads 1 (received 1 ∷ []) 2
+    ∷ Leads 1 (received 2 ∷ []) 3
+    ∷ Leads 2 (received 0 ∷ Timer ∷ LinkDown ∷ LockReport ∷ []) 1
+    ∷ Leads 2 (received 1 ∷ []) 2
+    ∷ Leads 2 (received 2 ∷ received 3 ∷ []) 3
+    ∷ Leads 3 (received 0 ∷ []) 1
+    ∷ Leads 3 (received 2 ∷ received 3 ∷ received 1 ∷ LinkDown ∷ LockReport ∷ []) 3
+    ∷ []
+drawn Sink =
+    Leads 1 (received 0 ∷ Timer ∷ LinkDown ∷ LockReport ∷ []) 1
+    ∷ Leads 1 (received 1 ∷ []) 2
+    ∷ Leads 1 (received 2 ∷ received 3 ∷ []) 3
+    ∷ Leads 2 (received 0 ∷ Timer ∷ LinkDown ∷ LockReport ∷ []) 1
+    ∷ Leads 2 (received 1 ∷ []) 2
+    ∷ Leads 2 (received 2 ∷ received 3 ∷ []) 3
+    ∷ Leads 3 (Crossed ∷ received 0 ∷ Timer ∷ received 1 ∷ LinkDown ∷ LockReport ∷ []) 1
+    ∷ Leads 3 (received 2 ∷ received 3 ∷ []) 3
+    ∷ []
 
--- not in the drawing: a crossed message takes INIT to DOWN too
+-- not in the drawings: a crossed message takes INIT to DOWN too, in every mode
 abbrev pub crossedInit : Arrow
 crossedInit = Leads 2 (Crossed ∷ []) 1
 
@@ -51,12 +75,17 @@ abbrev pub ledBy : ℕ → Input → List Arrow → ℕ
 ledBy state input [] = state
 ledBy state input (Leads box inputs to ∷ rest) = cond (eqb box state && isAmong input inputs) to (ledBy state input rest)
 
-abbrev pub drawn : ℕ → Input → ℕ
-drawn state input = ledBy state input (crossedInit ∷ arrows)
+-- by the figure of the mode alone
+abbrev pub byFigure : Mode → ℕ → Input → ℕ
+byFigure mode state input = ledBy state input (drawn mode)
+
+-- by the figure and the arrow that the rules add
+abbrev pub byRules : Mode → ℕ → Input → ℕ
+byRules mode state input = ledBy state input (crossedInit ∷ drawn mode)
 
 -- diagnostic 3 is for DOWN by a received state: afterwards the session is DOWN, and either it was DOWN before and by a received state, or
 -- the input that led it there is a received state
-abbrev pub remembered : Bool → ℕ → Input → Bool
-remembered before state input =
-    eqb (drawn state input) 1
+abbrev pub remembered : Mode → Bool → ℕ → Input → Bool
+remembered mode before state input =
+    eqb (byRules mode state input) 1
     && cond (eqb state 1) before (isAmong input (received 0 ∷ received 1 ∷ received 2 ∷ received 3 ∷ []))
