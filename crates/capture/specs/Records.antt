@@ -82,7 +82,7 @@ abbrev pub bodyFits : ℕ → ℕ → ℕ → Bool
 bodyFits octets marks kind = eqb octets 35 && ltb marks 4 && not (eqb kind 2)
 
 -- the settings of an open: discriminator, period, 16-bit type, own, expected, and a byte of marks (1 link-down, 2 lock). Of another body, settings that
--- do not fit: the discriminator is 0
+-- do not fit: the discriminator is 0. In a capture all sessions are coordinated
 unfoldable pub settingsIn : ℕ → List ℕ → Settings
 settingsIn label b =
     record {

@@ -21,7 +21,7 @@ use Rattle.rules.specs.Conditions.{sameIfId, sameGlobalId, sameKey, followsWith
 use Rattle.capture.specs.Records.{headerFits, recordIn, nextIn, settingsIn, callOf, callIn}
 use Rattle.text.specs.Text.{parsedBy, parsed}
 use Rattle.meaning.specs.Stories.{settingsOf}
-use Rattle.meaning.specs.Standing.{locked, crossing, timedFrom, multiplierOf, loss, state, stateAt, remoteDiagnostic, remoteOf, owed, stands, followedLast, keysOf, conditions, followed, held, report, diagnostic}
+use Rattle.meaning.specs.Standing.{locked, crossing, timedFrom, multiplierOf, lossIn, state, stateAt, remoteDiagnostic, remoteOf, owed, stands, followedLast, keysOf, conditions, followed, defect, held, report, diagnostic}
 use Rattle.meaning.specs.Histories.{clockOf, story, labels}
 use Rattle.meaning.specs.Answers.{rival, openNumber, actSaid, saysOf, says}
 use Rattle.meaning.specs.Accounts.{size}
@@ -32,9 +32,9 @@ use Rattle.cause.specs.Pasts.{pastOf, pastUpTo}
 use Rattle.cause.specs.Worked.{answerTo, reasonTo, Hold, questions, answerOf, Told, captures}
 
 pub questions-hold : Hold questions
-unfolding Hold questions answerTo reasonTo causeOf reasonOf lastEnding lastMark size told-all says saysOf actSaid openNumber rival clockOf story labels late past within settingsFit any only once without receivedAs sameIfId sameGlobalId sameKey followsWith headerRefusal channelRefusal kindRefusal packetOf ruleRefusal yourRefusal controlRefusal ccRefusal packetOctets valueLength lengthFits agiFits formRefusal agiRefusal mepRefusal mepFits headOctets agiOctets mepOctets sameMepId cvRefusal mepPart repeated rightLength badOctet withTlv tlvsOf rangeRefusal headRefusal refusalWith faultRefusal fieldsWith faultOf faultOctets messageRefusal messageOf settingsOf locked crossing timedFrom multiplierOf loss state stateAt remoteDiagnostic remoteOf owed stands followedLast keysOf conditions followed held report diagnostic
+unfolding Hold questions answerTo reasonTo causeOf reasonOf lastEnding lastMark size told-all says saysOf actSaid openNumber rival clockOf story labels late past within settingsFit any only once without receivedAs sameIfId sameGlobalId sameKey followsWith headerRefusal channelRefusal kindRefusal packetOf ruleRefusal yourRefusal controlRefusal ccRefusal packetOctets valueLength lengthFits agiFits formRefusal agiRefusal mepRefusal mepFits headOctets agiOctets mepOctets sameMepId cvRefusal mepPart repeated rightLength badOctet withTlv tlvsOf rangeRefusal headRefusal refusalWith faultRefusal fieldsWith faultOf faultOctets messageRefusal messageOf settingsOf locked crossing timedFrom multiplierOf lossIn state stateAt remoteDiagnostic remoteOf owed stands followedLast keysOf conditions followed defect held report diagnostic
 questions-hold = (refl, refl, (refl, refl, (refl, refl, (refl, refl, (refl, refl, (refl, refl, (refl, refl, (refl, refl, (refl, refl, (refl, refl, (refl, refl, (refl, refl, (refl, refl, (refl, refl, (refl, refl, (refl, refl, (refl, refl, (refl, refl, (refl, refl, (refl, refl, (refl, refl, (refl, refl, (refl, refl, (refl, refl, (refl, refl, tt)))))))))))))))))))))))))
 
 pub captures-told : Told captures
-unfolding Told captures answerOf pastOf pastUpTo headerFits recordIn nextIn settingsIn callOf callIn parsedBy parsed causeOf lastMark size told-all says saysOf actSaid openNumber rival clockOf story labels late past within settingsFit valueLength lengthFits agiFits mepFits any without settingsOf locked crossing timedFrom multiplierOf loss state stateAt remoteDiagnostic stands keysOf conditions only followed held report
+unfolding Told captures answerOf pastOf pastUpTo headerFits recordIn nextIn settingsIn callOf callIn parsedBy parsed causeOf lastMark size told-all says saysOf actSaid openNumber rival clockOf story labels late past within settingsFit valueLength lengthFits agiFits mepFits any without settingsOf locked crossing timedFrom multiplierOf lossIn state stateAt remoteDiagnostic stands keysOf conditions only followed defect held report
 captures-told = (refl, (refl, (refl, (refl, (refl, (refl, (refl, (refl, tt))))))))

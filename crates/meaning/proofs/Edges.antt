@@ -20,11 +20,11 @@ use Rattle.fault.specs.Message.{rangeRefusal, headRefusal, refusalWith, faultRe
 use Rattle.fault.specs.Octets.{faultOctets}
 use Rattle.message.specs.Message.{messageRefusal, messageOf}
 use Rattle.meaning.specs.Stories.{settingsOf}
-use Rattle.meaning.specs.Standing.{locked, crossing, timedFrom, multiplierOf, loss, state, stateAt, remoteDiagnostic, remoteOf, owed, stands, followedLast, keysOf, conditions, followed, held, report, diagnostic, packet, ccWritten, cvWritten}
+use Rattle.meaning.specs.Standing.{locked, crossing, timedFrom, multiplierOf, lossIn, state, stateAt, remoteDiagnostic, remoteOf, owed, stands, followedLast, keysOf, conditions, followed, defect, held, report, diagnostic, packet, ccWritten, cvWritten}
 use Rattle.meaning.specs.Histories.{clockOf, story, labels}
 use Rattle.meaning.specs.Answers.{rival, openNumber, actSaid, saysOf, says}
 use Rattle.meaning.specs.Edges.{told-all, lastSaid, Hold, edges}
 
 pub edges-hold : Hold edges
-unfolding Hold edges lastSaid told-all says saysOf actSaid openNumber rival clockOf story labels late past within settingsFit any only once receivedAs sameIfId sameGlobalId sameKey followsWith writing headerRefusal channelRefusal kindRefusal packetOf ruleRefusal yourRefusal controlRefusal ccRefusal packetOctets valueLength lengthFits agiFits formRefusal agiRefusal mepRefusal mepFits headOctets agiOctets mepOctets sameMepId cvRefusal mepPart tlvsOf rangeRefusal headRefusal refusalWith faultRefusal fieldsWith faultOf faultOctets messageRefusal messageOf settingsOf locked crossing timedFrom multiplierOf loss state stateAt remoteDiagnostic remoteOf owed stands followedLast keysOf conditions followed held report diagnostic packet ccWritten cvWritten
+unfolding Hold edges lastSaid told-all says saysOf actSaid openNumber rival clockOf story labels late past within settingsFit any only once receivedAs sameIfId sameGlobalId sameKey followsWith writing headerRefusal channelRefusal kindRefusal packetOf ruleRefusal yourRefusal controlRefusal ccRefusal packetOctets valueLength lengthFits agiFits formRefusal agiRefusal mepRefusal mepFits headOctets agiOctets mepOctets sameMepId cvRefusal mepPart tlvsOf rangeRefusal headRefusal refusalWith faultRefusal fieldsWith faultOf faultOctets messageRefusal messageOf settingsOf locked crossing timedFrom multiplierOf lossIn state stateAt remoteDiagnostic remoteOf owed stands followedLast keysOf conditions followed defect held report diagnostic packet ccWritten cvWritten
 edges-hold = (refl, (refl, (refl, (refl, (refl, (refl, (refl, (refl, (refl, (refl, (refl, (refl, (refl, (refl, (refl, tt)))))))))))))))

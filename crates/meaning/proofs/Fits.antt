@@ -18,78 +18,44 @@ use Rattle.message.specs.declared.Message.the-variants.{ContinuityCheck, Connec
 use Rattle.message.proofs.Read.{InRange}
 use Rattle.rules.specs.declared.Settings.{Settings}
 use Rattle.rules.specs.declared.State.{State}
-use Rattle.rules.specs.declared.State.the-variants.{AdminDown, Down, NeighborDown, Init, Up}
-use Rattle.rules.specs.declared.Input.{Input}
-use Rattle.rules.specs.declared.Input.the-variants.{GotAdminDown, GotDown, GotInit, GotUp, Timer, LinkDown, LockReport, Crossed}
+use Rattle.rules.specs.declared.State.the-variants.{Down}
+use Rattle.rules.specs.declared.Mode.{Mode}
+use Rattle.rules.specs.declared.Input.the-variants.{Timer, Crossed}
 use Rattle.rules.specs.declared.Received.{Received}
 use Rattle.rules.specs.declared.Received.the-variants.{CrossedMessage, HeardCc, HeardCv, FaultMessage}
 use Rattle.rules.specs.Times.{past, within, detectionTime, crossingTime}
-use Rattle.rules.specs.States.{moved, heardInput, isLocked, stored, stateOf, downByNeighbor}
+use Rattle.rules.specs.States.{heardInput, isLocked, stored, stateOf, downByNeighbor}
+use Rattle.rules.specs.Modes.{modeIn, movedIn, isSourceUp, isCoordinated, requiredInterval}
 use Rattle.rules.specs.Settings.{settingsFit}
 use Rattle.rules.specs.Received.{receivedAs, foreign}
 use Rattle.rules.specs.Conditions.{actsOn, faultState, faultInput}
 use Rattle.rules.specs.Diagnostics.{remoteDefect, diagnosticOf, reportOf, packetOut}
 use Rattle.rules.proofs.Bools.{split, or-left, or-cases}
 use Rattle.rules.proofs.Ages.{within-before}
-use Rattle.rules.proofs.States.{state-stored}
+use Rattle.rules.proofs.States.{state-stored, moved-locked}
 use Rattle.conditions.specs.Standing.{countAt, anyFollowed}
 use Rattle.conditions.specs.Taking.{faultAnswer, takenIn}
 use Rattle.session.specs.declared.Session.{Session}
-use Rattle.session.specs.Queries.{lockedIn, lossAt, crossingAt, heldAt, reportAt, diagnosticAt, packetAt, ccOctetsAt, cvOctetsAt, stateAt as recordStateAt}
+use Rattle.session.specs.Queries.{lockedIn, lossAt, crossingAt, defectAt, heldAt, reportAt, diagnosticAt, packetAt, ccOctetsAt, cvOctetsAt, stateAt as recordStateAt}
 use Rattle.session.specs.Steps as Steps
 use Rattle.session.specs.Reception.{receivedAnswer, receivedBy}
 use Rattle.session.specs.Soundness.{sessionSound}
 use Rattle.session.proofs.Sound.{sound-says, opened-sound, locked-sound, unlocked-sound, heard-cc-sound, heard-cv-sound, crossed-sound, fault-sound, written-sound, kept-sound}
 use Rattle.meaning.specs.Stories.{Story, opened, lock, unlock, got, wroteCc, settingsOf, wasTo, isCrossed, isHeard}
-use Rattle.meaning.specs.Standing.{locked, crossing, timedFrom, multiplierOf, multiplierBy, loss, state, stateBy, stateAt, remoteDiagnostic, diagnosticBy, remoteOf, remoteBy, owed, owedBy, conditions, followed, held, report, diagnostic, packet, ccWritten, cvWritten}
+use Rattle.meaning.specs.Standing.{mode, locked, crossing, timedFrom, multiplierOf, multiplierBy, lossIn, loss, state, stateBy, stateAt, remoteDiagnostic, diagnosticBy, remoteOf, remoteBy, owed, owedBy, conditions, followed, defect, held, report, diagnostic, packet, ccWritten, cvWritten}
 use Rattle.meaning.specs.Answers.{receivedNumber}
 use Rattle.meaning.proofs.Places.{Kept, kept-opened, kept-later, kept-lock, kept-unlock, kept-wrote, kept-crossed, kept-cc, kept-cv, kept-fault, kept-count, kept-followed, kept-crowded}
 
 -- no input locks or unlocks a session
-moved-locked : (s : State) (i : Input) → isLocked (moved s i) ≡ isLocked s
-moved-locked AdminDown i = refl
-moved-locked Down GotAdminDown = refl
-moved-locked Down GotDown = refl
-moved-locked Down GotInit = refl
-moved-locked Down GotUp = refl
-moved-locked Down Timer = refl
-moved-locked Down LinkDown = refl
-moved-locked Down LockReport = refl
-moved-locked Down Crossed = refl
-moved-locked NeighborDown GotAdminDown = refl
-moved-locked NeighborDown GotDown = refl
-moved-locked NeighborDown GotInit = refl
-moved-locked NeighborDown GotUp = refl
-moved-locked NeighborDown Timer = refl
-moved-locked NeighborDown LinkDown = refl
-moved-locked NeighborDown LockReport = refl
-moved-locked NeighborDown Crossed = refl
-moved-locked Init GotAdminDown = refl
-moved-locked Init GotDown = refl
-moved-locked Init GotInit = refl
-moved-locked Init GotUp = refl
-moved-locked Init Timer = refl
-moved-locked Init LinkDown = refl
-moved-locked Init LockReport = refl
-moved-locked Init Crossed = refl
-moved-locked Up GotAdminDown = refl
-moved-locked Up GotDown = refl
-moved-locked Up GotInit = refl
-moved-locked Up GotUp = refl
-moved-locked Up Timer = refl
-moved-locked Up LinkDown = refl
-moved-locked Up LockReport = refl
-moved-locked Up Crossed = refl
-
 by-locked : (hold : Bool) (g : Settings) (x : Received) (s : State) → isLocked (stateBy hold g x s) ≡ isLocked s
-by-locked hold g CrossedMessage s = moved-locked s Crossed
-by-locked hold g (HeardCc p) s = moved-locked s (heardInput hold (p .state))
+by-locked hold g CrossedMessage s = moved-locked (modeIn g) s Crossed
+by-locked hold g (HeardCc p) s = moved-locked (modeIn g) s (heardInput hold (p .state))
 by-locked hold g HeardCv s = refl
-by-locked hold g (FaultMessage f) s = split (actsOn g f) (λ e. rw e (moved-locked s (faultInput (f .kind)))) (λ e. rw e)
+by-locked hold g (FaultMessage f) s = split (actsOn g f) (λ e. rw e (moved-locked (modeIn g) s (faultInput (f .kind)))) (λ e. rw e)
 
-timer-locked : (b : Bool) (s : State) → isLocked (cond b (moved s Timer) s) ≡ isLocked s
-timer-locked true s = moved-locked s Timer
-timer-locked false s = refl
+timer-locked : (m : Mode) (b : Bool) (s : State) → isLocked (cond b (movedIn m s Timer) s) ≡ isLocked s
+timer-locked m true s = moved-locked m s Timer
+timer-locked m false s = refl
 
 -- the state of a story is ADMIN DOWN exactly while it is locked
 pub state-locked : (s : Story) → isLocked (state s) ≡ locked s
@@ -98,8 +64,8 @@ state-locked (opened g t) = refl
 state-locked (lock s t) = refl
 state-locked (unlock s t) =
     split (locked s) (λ e. rw e)
-    (λ e. rw e (timer-locked (loss t s) (state s) ∙ state-locked s ∙ e))
-state-locked (got s m t) = by-locked _ (settingsOf s) (wasTo s m) _ ∙ timer-locked (loss t s) (state s) ∙ state-locked s
+    (λ e. rw e (timer-locked (mode s) (loss t s) (state s) ∙ state-locked s ∙ e))
+state-locked (got s m t) = by-locked _ (settingsOf s) (wasTo s m) _ ∙ timer-locked (mode s) (loss t s) (state s) ∙ state-locked s
 state-locked (wroteCc s) = state-locked s
 
 or-false : (b : Bool) → b || false ≡ b
@@ -124,13 +90,13 @@ module _ {now : ℕ} {r : Session} {s : Story} (f : Fits now r s) where
   same-locked = ap isLocked (f .state) ∙ state-locked s
 
   pub same-loss : (t : ℕ) → lossAt r t ≡ loss t s
-  unfolding lossAt loss
+  unfolding lossAt lossIn
   same-loss t =
-      λ i. not (same-locked i) && past (f .timed i) (detectionTime (f .settings i .period) (f .multiplier i)) t
+      λ i. not (same-locked i) && (not (isSourceUp (modeIn (f .settings i)) (f .state i)) && past (f .timed i) (detectionTime (f .settings i .period) (f .multiplier i)) t)
 
   pub same-state : (t : ℕ) → recordStateAt r t ≡ stateAt t s
   unfolding recordStateAt stateAt
-  same-state t = λ i. cond (same-loss t i) (moved (f .state i) Timer) (f .state i)
+  same-state t = λ i. cond (same-loss t i) (movedIn (modeIn (f .settings i)) (f .state i) Timer) (f .state i)
 
   pub same-report : (t : ℕ) → now ≤ t → reportAt r t ≡ report t s
   unfolding reportAt report
@@ -142,8 +108,8 @@ module _ {now : ℕ} {r : Session} {s : Story} (f : Fits now r s) where
   same-followed t h = ap (λ (g : Settings). anyFollowed g (r .conditions) t) (f .settings) ∙ kept-followed t h (f .places)
 
   same-held : (t : ℕ) → now ≤ t → heldAt r t ≡ held t s
-  unfolding heldAt held
-  same-held t h = λ i. f .crossing t h i || same-followed t h i
+  unfolding heldAt defectAt held defect
+  same-held t h = λ i. isCoordinated (modeIn (f .settings i)) && (f .crossing t h i || same-followed t h i)
 
   same-diagnostic : (t : ℕ) → now ≤ t → diagnosticAt r t ≡ diagnostic t s
   unfolding diagnosticAt diagnostic
@@ -154,6 +120,7 @@ module _ {now : ℕ} {r : Session} {s : Story} (f : Fits now r s) where
   unfolding packetAt packet
   same-packet t h fin fin′ e =
       λ i. packetOut (same-diagnostic t h i) (same-state t i) (e i) (f .settings i .discriminator) (f .remote i) (f .settings i .period)
+      (requiredInterval (modeIn (f .settings i)) (f .settings i .period))
 
   pub same-cc : (t : ℕ) → now ≤ t → ccOctetsAt r t ≡ ccWritten t s
   unfolding ccOctetsAt ccWritten
@@ -295,8 +262,8 @@ module _ {now : ℕ} (m : Message) (u : ℕ) {r : Session} {s : Story} (h : now 
         remote = rw e;
         reply = rw e (bit-back (p .poll || eqb (r .peer .owed) 1) _ refl ∙ ap (λ (b : Bool). p .poll || b) (f .reply));
         state =
-            after-state (HeardCc p) (moved (recordStateAt r u) (heardInput (heldAt r u) (p .state))) e
-            (λ i. moved (same-state f u i) (heardInput (same-held f u h i) (p .state)));
+            after-state (HeardCc p) (movedIn (modeIn (r .settings)) (recordStateAt r u) (heardInput (heldAt r u) (p .state))) e
+            (λ i. movedIn (modeIn (f .settings i)) (same-state f u i) (heardInput (same-held f u h i) (p .state)));
         crossing = λ t k. rw e (f .crossing t (omega arith));
         places = kept-cc m u p e (kept-later now u h (f .places));
         sound = heard-cc-sound r now u h (f .sound) p (g .0) (g .1) (g .2);
@@ -344,7 +311,9 @@ module _ {now : ℕ} (m : Message) (u : ℕ) {r : Session} {s : Story} (h : now 
         diagnostic = rw e (f .diagnostic);
         remote = rw e (f .remote);
         reply = rw e (f .reply);
-        state = after-state CrossedMessage (moved (recordStateAt r u) Crossed) e (ap (λ (x : State). moved x Crossed) (same-state f u));
+        state =
+            after-state CrossedMessage (movedIn (modeIn (r .settings)) (recordStateAt r u) Crossed) e
+            (λ i. movedIn (modeIn (f .settings i)) (same-state f u i) Crossed);
         crossing = λ t k. rw e (crossed-last t (omega arith) k);
         places = kept-crossed m u e (kept-later now u h (f .places));
         sound = crossed-sound r now u h (f .sound);
@@ -362,8 +331,8 @@ module _ {now : ℕ} (m : Message) (u : ℕ) {r : Session} {s : Story} (h : now 
         remote = rw e (f .remote);
         reply = rw e (f .reply);
         state =
-            after-state (FaultMessage x) (faultState (actsOn (r .settings) x) (recordStateAt r u) (x .kind)) e
-            (λ i. faultState (actsOn (f .settings i) x) (same-state f u i) (x .kind));
+            after-state (FaultMessage x) (faultState (modeIn (r .settings)) (actsOn (r .settings) x) (recordStateAt r u) (x .kind)) e
+            (λ i. faultState (modeIn (f .settings i)) (actsOn (f .settings i) x) (same-state f u i) (x .kind));
         crossing = λ t k. rw e (f .crossing t (omega arith));
         places = kept-fault m x u h (g .0) e a (f .places);
         sound = fault-sound r now u h (f .sound) x (g .1) (g .2) (g .3);

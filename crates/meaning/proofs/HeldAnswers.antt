@@ -19,18 +19,19 @@ use Rattle.cv.specs.declared.MepId.{MepId}
 use Rattle.cv.specs.MepId.{mepOctets}
 use Rattle.cv.specs.Cv.{cvOctets}
 use Rattle.rules.specs.States.{reported, isComingUp, downByNeighbor}
+use Rattle.rules.specs.Modes.{isCoordinated}
 use Rattle.rules.specs.Diagnostics.{diagnosticOf}
 use Rattle.rules.specs.Calls.{Act, Close, Lock, Unlock, Receive, ReportOn, WriteCc, WriteCv, Call, Tick, Open, On, Said, isAccepted, writes}
-use Rattle.rules.proofs.Bools.{split, or-left, no-way}
+use Rattle.rules.proofs.Bools.{split, both-true, or-left, no-way}
 use Rattle.rules.proofs.States.{reported-up}
 use Rattle.session.specs.declared.Session.{Session}
 use Rattle.table.specs.Table.{answer}
 use Rattle.meaning.specs.Stories.{Story, opened, lock, unlock, got, wroteCc, settingsOf}
-use Rattle.meaning.specs.Standing.{locked, crossing, loss, followed, held, owed, stateAt, report, diagnostic, packet, ccWritten, cvWritten}
+use Rattle.meaning.specs.Standing.{locked, crossing, loss, followed, defect, held, owed, stateAt, report, diagnostic, packet, ccWritten, cvWritten}
 use Rattle.meaning.specs.Histories.{History, start, after, actReading, reading, actTold, told, clockOf, story}
 use Rattle.meaning.specs.Answers.{reportSaid, writeSaid, actSaid, saysOf, says}
 use Rattle.meaning.specs.Worlds.{World, play, begin, pastOf, tableAfter, Right}
-use Rattle.meaning.specs.HoldDown.{ReadBy, WrittenDown, HeldDown}
+use Rattle.meaning.specs.HoldDown.{ReadBy, IsCoordinated, WrittenDown, HeldDown}
 use Rattle.meaning.proofs.Timer.{in-time}
 use Rattle.meaning.proofs.Demand.{Good, answered, good-play, good-begin}
 use Rattle.meaning.proofs.HoldDown.{held-down}
@@ -88,9 +89,15 @@ bit-true : (b : Bool) → bitOf b ≡ 1 → b ≡ true
 bit-true true e = refl
 bit-true false e = absurd (omega arith)
 
-report-down : (now : ℕ) (s : Story) → ReadBy now s → report now s .crossing ≡ 1 → report now s .state ≤ 1
-unfolding report held
-report-down now s b k = reported-up (stateAt now s) (held-down now s b (or-left (followed now s) (bit-true (crossing now s) k)))
+-- a coordinated session with a defect is held
+defect-held : (now : ℕ) (s : Story) → IsCoordinated (some s) → crossing now s || followed now s ≡ true → held now s ≡ true
+unfolding held defect
+defect-held now s c k = both-true (ap isCoordinated c) k
+
+report-down : (now : ℕ) (s : Story) → ReadBy now s → IsCoordinated (some s) → report now s .crossing ≡ 1 → report now s .state ≤ 1
+unfolding report
+report-down now s b c k =
+    reported-up (stateAt now s) (held-down now s b (defect-held now s c (or-left (followed now s) (bit-true (crossing now s) k))))
 
 -- diagnostic 9 and diagnostic 5, as they stand in an octet, are for a crossing and a followed condition
 defect-told : (locked crossing followed loss neighbor : Bool)
@@ -108,10 +115,10 @@ state-octet : (n : ℕ) (fin : Bool) → n ≤ 1 → (n % 4 * 64 + 0 * 32 + bitO
 state-octet n true h = omega arith
 state-octet n false h = omega arith
 
-packet-down : (channel now : ℕ) (s : Story) (fin : Bool) (rest : List ℕ) → ReadBy now s → WrittenDown (packetOctets channel (packet now s fin) rest)
-unfolding packetOf packetOctets packet diagnostic held
-packet-down channel now s fin rest b k =
-    let up = held-down now s b (defect-told (locked s) (crossing now s) (followed now s) (loss now s) (downByNeighbor (stateAt now s)) k) in
+packet-down : (channel now : ℕ) (s : Story) (fin : Bool) (rest : List ℕ) → ReadBy now s → IsCoordinated (some s) → WrittenDown (packetOctets channel (packet now s fin) rest)
+unfolding packetOf packetOctets packet diagnostic
+packet-down channel now s fin rest b c k =
+    let up = held-down now s b (defect-held now s c (defect-told (locked s) (crossing now s) (followed now s) (loss now s) (downByNeighbor (stateAt now s)) k)) in
     state-octet (reported (stateAt now s)) fin (reported-up (stateAt now s) up)
 
 -- an accepted write has its octets at the buffer's front
@@ -127,41 +134,41 @@ cv-front : (p : Packet) (id : MepId) (pad : List ℕ) → cvOctets p id ++ pad �
 unfolding packetOctets
 cv-front p id pad = refl
 
-cc-down : (now : ℕ) (c : Call) (b : List ℕ) (o : Option Story) → OpenBy now o → isAccepted (writeSaid c (ccWritten now) b o) ≡ true
+cc-down : (now : ℕ) (c : Call) (b : List ℕ) (o : Option Story) → OpenBy now o → IsCoordinated o → isAccepted (writeSaid c (ccWritten now) b o) ≡ true
     → WrittenDown (writeSaid c (ccWritten now) b o .buffer)
 unfolding ccWritten
-cc-down now c b none r e = no-way e refl
-cc-down now c b (some s) r e =
+cc-down now c b none r k e = no-way e refl
+cc-down now c b (some s) r k e =
     let octets = ccOctets (packet now s (owed s)) in
     subst WrittenDown (sym (front octets b e ∙ cc-front (packet now s (owed s)) (drop (length octets) b)))
-    (packet-down ccChannel now s (owed s) (drop (length octets) b) r)
+    (packet-down ccChannel now s (owed s) (drop (length octets) b) r k)
 
-cv-down : (now : ℕ) (c : Call) (b : List ℕ) (o : Option Story) → OpenBy now o → isAccepted (writeSaid c (cvWritten now) b o) ≡ true
+cv-down : (now : ℕ) (c : Call) (b : List ℕ) (o : Option Story) → OpenBy now o → IsCoordinated o → isAccepted (writeSaid c (cvWritten now) b o) ≡ true
     → WrittenDown (writeSaid c (cvWritten now) b o .buffer)
 unfolding cvWritten
-cv-down now c b none r e = no-way e refl
-cv-down now c b (some s) r e =
+cv-down now c b none r k e = no-way e refl
+cv-down now c b (some s) r k e =
     let id = settingsOf s .own in
     let octets = cvOctets (packet now s false) id in
     subst WrittenDown (sym (front octets b e ∙ cv-front (packet now s false) id (drop (length octets) b)))
-    (packet-down cvChannel now s false (mepOctets id ++ drop (length octets) b) r)
+    (packet-down cvChannel now s false (mepOctets id ++ drop (length octets) b) r k)
 
-shown-down : (now : ℕ) (c : Call) (o : Option Story) → OpenBy now o → reportSaid c now o .report .crossing ≡ 1 → reportSaid c now o .report .state ≤ 1
-shown-down now c none r e = omega arith
-shown-down now c (some s) r e = report-down now s r e
+shown-down : (now : ℕ) (c : Call) (o : Option Story) → OpenBy now o → IsCoordinated o → reportSaid c now o .report .crossing ≡ 1 → reportSaid c now o .report .state ≤ 1
+shown-down now c none r k e = omega arith
+shown-down now c (some s) r k e = report-down now s r k e
 
 -- 3. What the paper says to a report and to a write.
 
 module _ (h : History) (l : ℕ) (r : Right h) where
-  by-report : says h (On l ReportOn) .report .crossing ≡ 1 → says h (On l ReportOn) .report .state ≤ 1
+  by-report : IsCoordinated (story l h) → says h (On l ReportOn) .report .crossing ≡ 1 → says h (On l ReportOn) .report .state ≤ 1
   unfolding says saysOf actSaid
   by-report = shown-down (clockOf h) (On l ReportOn) (story l h) (clock-by h r l)
 
-  by-cc : (b : List ℕ) → isAccepted (says h (On l (WriteCc b))) ≡ true → WrittenDown (says h (On l (WriteCc b)) .buffer)
+  by-cc : (b : List ℕ) → IsCoordinated (story l h) → isAccepted (says h (On l (WriteCc b))) ≡ true → WrittenDown (says h (On l (WriteCc b)) .buffer)
   unfolding says saysOf actSaid
   by-cc b = cc-down (clockOf h) (On l (WriteCc b)) b (story l h) (clock-by h r l)
 
-  by-cv : (b : List ℕ) → isAccepted (says h (On l (WriteCv b))) ≡ true → WrittenDown (says h (On l (WriteCv b)) .buffer)
+  by-cv : (b : List ℕ) → IsCoordinated (story l h) → isAccepted (says h (On l (WriteCv b))) ≡ true → WrittenDown (says h (On l (WriteCv b)) .buffer)
   unfolding says saysOf actSaid
   by-cv b = cv-down (clockOf h) (On l (WriteCv b)) b (story l h) (clock-by h r l)
 
@@ -189,11 +196,11 @@ held-answers row e cs =
     said : (c : Call) → answer (w .table) c ≡ says past c
     said = answered past (w .table) (G .in-step)
 
-    said-down : (l : ℕ) → answer (w .table) (On l ReportOn) .report .crossing ≡ 1 → answer (w .table) (On l ReportOn) .report .state ≤ 1
-    said-down l = subst (λ (x : Said). x .report .crossing ≡ 1 → x .report .state ≤ 1) (sym (said (On l ReportOn))) (by-report past l (G .right))
+    said-down : (l : ℕ) → IsCoordinated (story l past) → answer (w .table) (On l ReportOn) .report .crossing ≡ 1 → answer (w .table) (On l ReportOn) .report .state ≤ 1
+    said-down l k = subst (λ (x : Said). x .report .crossing ≡ 1 → x .report .state ≤ 1) (sym (said (On l ReportOn))) (by-report past l (G .right) k)
 
-    said-cc : (l : ℕ) (b : List ℕ) → isAccepted (answer (w .table) (On l (WriteCc b))) ≡ true → WrittenDown (answer (w .table) (On l (WriteCc b)) .buffer)
-    said-cc l b = subst (λ (x : Said). isAccepted x ≡ true → WrittenDown (x .buffer)) (sym (said (On l (WriteCc b)))) (by-cc past l (G .right) b)
+    said-cc : (l : ℕ) (b : List ℕ) → IsCoordinated (story l past) → isAccepted (answer (w .table) (On l (WriteCc b))) ≡ true → WrittenDown (answer (w .table) (On l (WriteCc b)) .buffer)
+    said-cc l b k = subst (λ (x : Said). isAccepted x ≡ true → WrittenDown (x .buffer)) (sym (said (On l (WriteCc b)))) (by-cc past l (G .right) b k)
 
-    said-cv : (l : ℕ) (b : List ℕ) → isAccepted (answer (w .table) (On l (WriteCv b))) ≡ true → WrittenDown (answer (w .table) (On l (WriteCv b)) .buffer)
-    said-cv l b = subst (λ (x : Said). isAccepted x ≡ true → WrittenDown (x .buffer)) (sym (said (On l (WriteCv b)))) (by-cv past l (G .right) b)
+    said-cv : (l : ℕ) (b : List ℕ) → IsCoordinated (story l past) → isAccepted (answer (w .table) (On l (WriteCv b))) ≡ true → WrittenDown (answer (w .table) (On l (WriteCv b)) .buffer)
+    said-cv l b k = subst (λ (x : Said). isAccepted x ≡ true → WrittenDown (x .buffer)) (sym (said (On l (WriteCv b)))) (by-cv past l (G .right) b k)

@@ -22,7 +22,8 @@ use Rattle.rules.specs.declared.Input.the-variants.{Timer}
 use Rattle.rules.specs.declared.Received.{Received}
 use Rattle.rules.specs.declared.Received.the-variants.{CrossedMessage, HeardCc, HeardCv, FaultMessage}
 use Rattle.rules.specs.Times.{late, past, within, detectionTime, crossingTime}
-use Rattle.rules.specs.States.{moved, isLocked, downByNeighbor}
+use Rattle.rules.specs.States.{isLocked, downByNeighbor}
+use Rattle.rules.specs.Modes.{modeIn, movedIn, isSourceUp, isCoordinated, requiredInterval}
 use Rattle.rules.specs.Settings.{settingsFit}
 use Rattle.rules.specs.Received.{receivedAs}
 use Rattle.rules.specs.Conditions.{keyOf}
@@ -31,11 +32,11 @@ use Rattle.rules.specs.Lists.{any, only}
 use Rattle.rules.specs.Calls.{Act, Close, Lock, Unlock, Receive, ReportOn, WriteCc, WriteCv, Call, Tick, Open, On, numberOnly, reporting, writes}
 use Rattle.rules.proofs.Bools.{split}
 use Rattle.meaning.specs.Stories.{Story, opened, lock, unlock, got, wroteCc, settingsOf, wasTo, isCrossed, isHeard}
-use Rattle.meaning.specs.Standing.{locked, crossing, timedFrom, multiplierOf, multiplierBy, loss, state, stateBy, stateAt, remoteDiagnostic, diagnosticBy, remoteOf, remoteBy, owed, owedBy, stands, standsBy, followedLast, followedBy, keysOf, keysBy, conditions, followed, held, report, diagnostic, packet, ccWritten, cvWritten}
+use Rattle.meaning.specs.Standing.{mode, locked, crossing, timedFrom, multiplierOf, multiplierBy, lossIn, loss, state, stateBy, stateAt, remoteDiagnostic, diagnosticBy, remoteOf, remoteBy, owed, owedBy, stands, standsBy, followedLast, followedBy, keysOf, keysBy, conditions, followed, defect, held, report, diagnostic, packet, ccWritten, cvWritten}
 use Rattle.meaning.specs.Histories.{actReading, reading, more, actTold, told}
 use Rattle.meaning.specs.Answers.{isOpen, hasDiscriminator, rival, full, openNumber, receivedNumber, receiveNumber, reportSaid, writeSaid, actSaid, saysOf}
 use Rattle.meaning.proofs.Fits.{state-locked}
-use Rattle.meaning.proofs.Timer.{state-later}
+use Rattle.meaning.proofs.Timer.{timer-source, overdue-later, state-later}
 
 -- two stories that differ in nothing but what TIMER did to the state before the clock `from`
 pub record Indistinct (from : ℕ) (r s : Story) : Type 0 where
@@ -50,6 +51,7 @@ pub record Indistinct (from : ℕ) (r s : Story) : Type 0 where
   pub standing : (now : ℕ) (key : Key) → stands now r key ≡ stands now s key
   pub following : (key : Key) → followedLast r key ≡ followedLast s key
   pub crossings : (now : ℕ) → crossing now r ≡ crossing now s
+  pub sources : isSourceUp (mode r) (state r) ≡ isSourceUp (mode s) (state s)
   pub states : (now : ℕ) → from ≤ now → stateAt now r ≡ stateAt now s
 
 pub alike-same : (from : ℕ) (s : Story) → Indistinct from s s
@@ -66,6 +68,7 @@ alike-same from s =
       standing = λ now key. refl;
       following = λ key. refl;
       crossings = λ now. refl;
+      sources = refl;
       states = λ now h. refl;
     }
 
@@ -84,6 +87,7 @@ alike-later later h A =
       standing = A .standing;
       following = A .following;
       crossings = A .crossings;
+      sources = A .sources;
       states = λ now k. A .states now (omega arith);
     }
 
@@ -91,8 +95,9 @@ alike-later later h A =
 
 module _ {from : ℕ} {r s : Story} (A : Indistinct from r s) where
   same-loss : (now : ℕ) → loss now r ≡ loss now s
-  unfolding loss
-  same-loss now = λ i. not (A .lock-mark i) && past (A .timed i) (detectionTime (A .settings i .period) (A .multiplier i)) now
+  unfolding lossIn
+  same-loss now =
+      λ i. not (A .lock-mark i) && (not (A .sources i) && past (A .timed i) (detectionTime (A .settings i .period) (A .multiplier i)) now)
 
   same-conditions : (now : ℕ) → conditions now r ≡ conditions now s
   unfolding conditions
@@ -103,8 +108,8 @@ module _ {from : ℕ} {r s : Story} (A : Indistinct from r s) where
   same-followed now = λ i. any (λ key. A .standing now key i && A .following key i) (A .keys i)
 
   same-held : (now : ℕ) → held now r ≡ held now s
-  unfolding held
-  same-held now = λ i. A .crossings now i || same-followed now i
+  unfolding held defect
+  same-held now = λ i. isCoordinated (modeIn (A .settings i)) && (A .crossings now i || same-followed now i)
 
   module _ (now : ℕ) (h : from ≤ now) where
     same-report : report now r ≡ report now s
@@ -122,6 +127,7 @@ module _ {from : ℕ} {r s : Story} (A : Indistinct from r s) where
     unfolding packet
     same-packet e =
         λ i. packetOut (same-diagnostic i) (A .states now h i) (e i) (A .settings i .discriminator) (A .remote i) (A .settings i .period)
+        (requiredInterval (modeIn (A .settings i)) (A .settings i .period))
 
     same-cc : ccWritten now r ≡ ccWritten now s
     unfolding ccWritten
@@ -199,9 +205,11 @@ both-says now st st′ ls (On l a) A = both-act now l a (st l) (st′ l) (A l)
 -- what decides the state at a clock
 same-at : (r s : Story) → settingsOf r ≡ settingsOf s → locked r ≡ locked s → timedFrom r ≡ timedFrom s → multiplierOf r ≡ multiplierOf s → state r ≡ state s
     → (now : ℕ) → stateAt now r ≡ stateAt now s
-unfolding stateAt loss
+unfolding stateAt lossIn
 same-at r s g k t m e now =
-    λ i. cond (not (k i) && past (t i) (detectionTime (g i .period) (m i)) now) (moved (e i) Timer) (e i)
+    λ i.
+    cond (not (k i) && (not (isSourceUp (modeIn (g i)) (e i)) && past (t i) (detectionTime (g i .period) (m i)) now))
+    (movedIn (modeIn (g i)) (e i) Timer) (e i)
 
 module _ {from : ℕ} (u : ℕ) {r s : Story} (h : from ≤ u) (A : Indistinct from r s) where
   alike-lock : Indistinct u (lock r u) (lock s u)
@@ -219,6 +227,7 @@ module _ {from : ℕ} (u : ℕ) {r s : Story} (h : from ≤ u) (A : Indistinct f
         standing = A .standing;
         following = A .following;
         crossings = A .crossings;
+        sources = λ i. isSourceUp (modeIn (A .settings i)) AdminDown;
         states = λ now k. same-at (lock r u) (lock s u) (A .settings) refl (A .timed) (A .multiplier) refl now;
       }
 
@@ -239,6 +248,7 @@ module _ {from : ℕ} (u : ℕ) {r s : Story} (h : from ≤ u) (A : Indistinct f
         standing = A .standing;
         following = A .following;
         crossings = A .crossings;
+        sources = λ i. isSourceUp (modeIn (A .settings i)) (cond (A .lock-mark i) Down (A .states u h i));
         states = λ now k. same-at (unlock r u) (unlock s u) (A .settings) refl t m (λ i. cond (A .lock-mark i) Down (A .states u h i)) now;
       }
 
@@ -263,12 +273,13 @@ module _ {from : ℕ} (u : ℕ) {r s : Story} (h : from ≤ u) (A : Indistinct f
           standing = λ now key i. standsBy now u key (same-was i) (A .standing now key i);
           following = λ key i. followedBy (A .settings i) key (same-was i) (A .following key i);
           crossings = λ now i. isCrossed (same-was i) && within u crossingTime now || A .crossings now i;
+          sources = λ i. isSourceUp (modeIn (A .settings i)) (stateBy (same-held A u i) (A .settings i) (same-was i) (A .states u h i));
           states = λ now b.
               same-at (got r m u) (got s m u) (A .settings) (A .lock-mark) t k (λ i. stateBy (same-held A u i) (A .settings i) (same-was i) (A .states u h i)) now;
         }
 
 alike-wrote : {from : ℕ} {r s : Story} → Indistinct from r s → Indistinct from (wroteCc r) (wroteCc s)
-unfolding settingsOf locked timedFrom multiplierOf remoteDiagnostic remoteOf owed keysOf stands followedLast crossing state stateAt loss
+unfolding settingsOf locked timedFrom multiplierOf remoteDiagnostic remoteOf owed keysOf stands followedLast crossing state stateAt lossIn
 alike-wrote A =
     record {
       settings = A .settings;
@@ -282,6 +293,7 @@ alike-wrote A =
       standing = A .standing;
       following = A .following;
       crossings = A .crossings;
+      sources = A .sources;
       states = A .states;
     }
 
@@ -340,11 +352,12 @@ alike-locked u s e d n =
       standing = λ now key. refl;
       following = λ key. refl;
       crossings = λ now. refl;
+      sources = ap (isSourceUp (mode s)) (sym (admin-down (state s) (state-locked s ∙ e)));
       states = λ now k. same-at (lock s u) s refl (sym e) refl refl (sym (admin-down (state s) (state-locked s ∙ e))) now;
     }
 
 pub alike-unlocked : (u : ℕ) (s : Story) → locked s ≡ false → Indistinct u (unlock s u) s
-unfolding settingsOf locked timedFrom multiplierOf remoteDiagnostic remoteOf owed keysOf stands followedLast crossing state stateAt loss
+unfolding settingsOf locked timedFrom multiplierOf remoteDiagnostic remoteOf owed keysOf stands followedLast crossing state stateAt lossIn
 alike-unlocked u s e =
     record {
       settings = refl;
@@ -358,5 +371,10 @@ alike-unlocked u s e =
       standing = λ now key. refl;
       following = λ key. refl;
       crossings = λ now. refl;
-      states = λ now k. rw e (rw e at (state-later s u now k));
+      sources = rw e (timer-source (not (isSourceUp (mode s) (state s)) && isOver u) (mode s) (state s));
+      states = λ now k. rw e (overdue-later (mode s) (isOver u) (isOver now) (state s) ∙ (rw e at (state-later s u now k)));
     }
+  where
+    -- more than the detection time has gone
+    isOver : ℕ → Bool
+    isOver now = past (timedFrom s) (detectionTime (settingsOf s .period) (multiplierOf s)) now

@@ -16,10 +16,11 @@ use Rattle.rules.specs.declared.Received.{Received}
 use Rattle.rules.specs.declared.Received.the-variants.{CrossedMessage, HeardCc, HeardCv, FaultMessage}
 use Rattle.rules.specs.Received.{receivedAs}
 use Rattle.rules.specs.Times.{past}
+use Rattle.rules.specs.Modes.{modeIn, isSourceUp}
 use Rattle.rules.specs.Calls.{Act, Close, Lock, Unlock, Receive, ReportOn, WriteCc, WriteCv, Call, Tick, Open, On, Said, isAccepted}
 use Rattle.rules.proofs.Bools.{split, no-way, both-true, refuted, true-false}
 use Rattle.meaning.specs.Stories.{Story, opened, lock, unlock, got, wroteCc, settingsOf, isHeard}
-use Rattle.meaning.specs.Standing.{locked, timedFrom, multiplierBy, multiplierOf, loss}
+use Rattle.meaning.specs.Standing.{mode, locked, timedFrom, multiplierBy, multiplierOf, lossIn, loss, state}
 use Rattle.meaning.specs.Histories.{History, start, after, more, actTold, told, story}
 use Rattle.meaning.specs.Accounts.{size, Opening, ReceivedSince, LockedBefore, RealUnlock, Restart, byOpening, byUnlock, byCc, byCv, Multiplier, heard, unheard, AccountsForLoss}
 use Rattle.meaning.proofs.Positions.{took-below as took-in}
@@ -544,16 +545,25 @@ module _ (h : History) (l : ℕ) (s : Story) (e : story l h ≡ some s) (o : ℕ
   multiplier-accounted k =
       (λ m. multiplier-one h l o g m multiplier-there, λ f. subst (λ (j : ℕ). Multiplier h l o g j) (sym f) multiplier-there)
 
--- a loss stands exactly where a call accounts for it: not locked, and more than period times multiplier has gone since the latest restart
+-- a loss stands exactly where a call accounts for it: not locked, no source in UP, and more than period times multiplier has gone since the latest restart
 pub loss-accounted : (h : History) (l : ℕ) (s : Story) → story l h ≡ some s → (now : ℕ)
     → (loss now s ≡ true → (p : ℕ) × AccountsForLoss h l now p) × ((p : ℕ) → AccountsForLoss h l now p → loss now s ≡ true)
-unfolding loss past
+unfolding lossIn past
 loss-accounted h l s e now = (there, back)
   where
-    there : not (locked s) && past (timedFrom s) (settingsOf s .period * multiplierOf s) now ≡ true → (p : ℕ) × AccountsForLoss h l now p
+    lost : Bool
+    lost = not (locked s) && (not (isSourceUp (mode s) (state s)) && past (timedFrom s) (settingsOf s .period * multiplierOf s) now)
+
+    the-story : (r : Story) → story l h ≡ some r → r ≡ s
+    the-story r f = let z : some r ≡ some s = sym f ∙ e in cc
+
+    there : lost ≡ true → (p : ℕ) × AccountsForLoss h l now p
     there z =
         let I = holds h l s e in
-        let y = and-both (not (locked s)) (past (timedFrom s) (settingsOf s .period * multiplierOf s) now) z in (
+        let up = isSourceUp (mode s) (state s) in
+        let overdue = past (timedFrom s) (settingsOf s .period * multiplierOf s) now in
+        let x = and-both (not (locked s)) (not up && overdue) z in
+        let y = and-both (not up) overdue (x .1) in (
           I .at,
           record {
             o = I .o;
@@ -563,14 +573,15 @@ loss-accounted h l s e now = (there, back)
             reading = timedFrom s;
             restart = I .restart;
             latest = I .latest;
-            unlocked = λ k. true-false (I .lock-seen k) (not-true (locked s) (y .0));
+            unlocked = λ k. true-false (I .lock-seen k) (not-true (locked s) (x .0));
+            exposed = λ r f. ap (λ (q : Story). isSourceUp (mode s) (state q)) (the-story r f) ∙ not-true up (y .0);
             multiplier = multiplierOf s;
             times = I .times;
             over = ltb-true (timedFrom s + settingsOf s .period * multiplierOf s) now (y .1);
           },
         )
 
-    back : (p : ℕ) → AccountsForLoss h l now p → not (locked s) && past (timedFrom s) (settingsOf s .period * multiplierOf s) now ≡ true
+    back : (p : ℕ) → AccountsForLoss h l now p → lost ≡ true
     back p A =
         let f : A .reading ≡ timedFrom s = restart-reading h l s e (A .o) (A .settings) (A .openedAt) (A .opening) p (A .reading) (A .restart) (A .latest) in
         let k : A .multiplier ≡ multiplierOf s =
@@ -580,5 +591,7 @@ loss-accounted h l s e now = (there, back)
         refuted (locked s) (λ z. A .unlocked (locked-accounted h l s e (A .o) (A .settings) (A .openedAt) (A .opening) .0 z)) in
         let q : A .reading + A .settings .period * A .multiplier ≡ timedFrom s + settingsOf s .period * multiplierOf s =
         λ i. f i + sym g i .period * k i in
+        let x : isSourceUp (mode s) (state s) ≡ false = ap (λ (j : Settings). isSourceUp (modeIn j) (state s)) g ∙ A .exposed s e in
         both-true (ap not n)
-        (lt-ltb (timedFrom s + settingsOf s .period * multiplierOf s) now (subst (λ (x : ℕ). x < now) q (A .over)))
+        (both-true (ap not x)
+        (lt-ltb (timedFrom s + settingsOf s .period * multiplierOf s) now (subst (λ (x : ℕ). x < now) q (A .over))))

@@ -14,20 +14,22 @@ use Rattle.message.specs.declared.Message.{Message}
 use Rattle.message.specs.Message.{messageOf}
 use Rattle.rules.specs.declared.Settings.{Settings}
 use Rattle.rules.specs.declared.State.{State}
-use Rattle.rules.specs.declared.State.the-variants.{AdminDown, Down, NeighborDown, Init, Up}
-use Rattle.rules.specs.declared.Input.the-variants.{Timer, Crossed, LinkDown, LockReport}
+use Rattle.rules.specs.declared.State.the-variants.{AdminDown, Down}
+use Rattle.rules.specs.declared.Mode.{Mode}
+use Rattle.rules.specs.declared.Input.the-variants.{Timer}
 use Rattle.rules.specs.declared.Received.{Received}
 use Rattle.rules.specs.declared.Received.the-variants.{CrossedMessage, HeardCc, HeardCv, FaultMessage}
 use Rattle.rules.specs.Times.{past, detectionTime, late}
-use Rattle.rules.specs.States.{moved}
-use Rattle.rules.specs.Conditions.{actsOn, faultState, faultInput}
+use Rattle.rules.specs.Modes.{modeIn, movedIn, isSourceUp}
+use Rattle.rules.specs.Conditions.{actsOn, faultState}
 use Rattle.rules.specs.Settings.{settingsFit}
 use Rattle.rules.specs.Calls.{Act, Close, Lock, Unlock, Receive, ReportOn, WriteCc, WriteCv, Call, Tick, Open, On, Said, isAccepted}
-use Rattle.rules.proofs.Bools.{split, both-true}
+use Rattle.rules.proofs.Bools.{split, both-true, no-way}
+use Rattle.rules.proofs.Failing.{and-false}
 use Rattle.rules.proofs.Ages.{not-late, past-later}
-use Rattle.rules.proofs.States.{timer-twice}
+use Rattle.rules.proofs.States.{byTimer, byLinkDown, byLockReport, byCrossed, source-still, timer-twice, timer-around}
 use Rattle.meaning.specs.Stories.{Story, opened, lock, unlock, got, wroteCc, settingsOf, wasTo, isHeard}
-use Rattle.meaning.specs.Standing.{locked, timedFrom, multiplierOf, multiplierBy, loss, held, state, stateBy, stateAt}
+use Rattle.meaning.specs.Standing.{mode, locked, timedFrom, multiplierOf, multiplierBy, lossIn, loss, held, state, afterTimer, stateBy, stateAt}
 use Rattle.meaning.specs.Histories.{History, start, after, actReading, reading, actTold, told, clockOf, story, labels}
 use Rattle.meaning.specs.Answers.{isOpen, rival, full, openNumber, receiveNumber, actSaid, saysOf, says}
 use Rattle.meaning.specs.Timer.{timed, acted, afterCall, eagerState, shown}
@@ -43,90 +45,114 @@ and-no true e = e
 and-no false e = refl
 
 loss-after : (s : Story) (now later : ℕ) → now ≤ later → loss now s ≡ true → loss later s ≡ true
-unfolding loss
+unfolding lossIn
 loss-after s now later h e =
     let span = detectionTime (settingsOf s .period) (multiplierOf s) in
-    let a = and-both (not (locked s)) (past (timedFrom s) span now) e in
-    both-true (a .0) (past-later (timedFrom s) span now later h (a .1))
+    let up = isSourceUp (mode s) (state s) in
+    let a = and-both (not (locked s)) (not up && past (timedFrom s) span now) e in
+    let b = and-both (not up) (past (timedFrom s) span now) (a .1) in
+    both-true (a .0) (both-true (b .0) (past-later (timedFrom s) span now later h (b .1)))
 
 -- the clock goes on
 pub state-later : (s : Story) (now later : ℕ) → now ≤ later → timed later s (stateAt now s) ≡ stateAt later s
 unfolding stateAt
 state-later s now later h =
-    split (loss now s) (λ a. rw (a, loss-after s now later h a) (timer-twice (state s))) (λ a. rw a)
+    split (loss now s) (λ a. rw (a, loss-after s now later h a) (timer-twice (mode s) (state s))) (λ a. rw a)
 
--- a session that TIMER took down stays down for a crossed message, LDI and LKR
-crossed-down : (x : State) → moved (moved (moved x Timer) Crossed) Timer ≡ moved (moved x Timer) Crossed
-crossed-down AdminDown = refl
-crossed-down Down = refl
-crossed-down NeighborDown = refl
-crossed-down Init = refl
-crossed-down Up = refl
+-- a session that was given TIMER keeps its state for TIMER after LDI and LKR too
+fault-again : (m : Mode) (acts : Bool) (kind : ℕ) (x : State)
+    → movedIn m (faultState m acts (movedIn m x Timer) kind) Timer ≡ faultState m acts (movedIn m x Timer) kind
+fault-again m true kind x = split (eqb kind 1) (λ e. rw e (timer-around m x byLinkDown)) (λ e. rw e (timer-around m x byLockReport))
+fault-again m false kind x = timer-twice m x
 
-link-down : (x : State) → moved (moved (moved x Timer) LinkDown) Timer ≡ moved (moved x Timer) LinkDown
-link-down AdminDown = refl
-link-down Down = refl
-link-down NeighborDown = refl
-link-down Init = refl
-link-down Up = refl
+-- neither TIMER nor a message that is not heard makes a source UP or takes it from there
+pub timer-source : (b : Bool) (m : Mode) (x : State) → isSourceUp m (cond b (movedIn m x Timer) x) ≡ isSourceUp m x
+timer-source true m x = source-still m x byTimer
+timer-source false m x = refl
 
-lock-report : (x : State) → moved (moved (moved x Timer) LockReport) Timer ≡ moved (moved x Timer) LockReport
-lock-report AdminDown = refl
-lock-report Down = refl
-lock-report NeighborDown = refl
-lock-report Init = refl
-lock-report Up = refl
+-- TIMER to a session that is overdue, no source in UP
+abbrev pub overdue : Mode → Bool → State → State
+overdue m late x = cond (not (isSourceUp m x) && late) (movedIn m x Timer) x
 
-fault-down : (acts : Bool) (kind : ℕ) (x : State) → moved (faultState acts (moved x Timer) kind) Timer ≡ faultState acts (moved x Timer) kind
-fault-down true kind x = split (eqb kind 1) (λ e. rw e (link-down x)) (λ e. rw e (lock-report x))
-fault-down false kind x = timer-twice x
+-- whether it is such a source is seen as well behind TIMER as before it
+pub overdue-later : (m : Mode) (late later : Bool) (x : State)
+    → overdue m later (overdue m late x) ≡ cond (not (isSourceUp m x) && later) (movedIn m (overdue m late x) Timer) (overdue m late x)
+overdue-later m late later x =
+    ap (λ (b : Bool). cond (not b && later) (movedIn m (overdue m late x) Timer) (overdue m late x)) (timer-source (not (isSourceUp m x) && late) m x)
+
+overdue-twice : (m : Mode) (late : Bool) (x : State) → overdue m late (overdue m late x) ≡ overdue m late x
+overdue-twice m late x =
+    overdue-later m late late x ∙ split (not (isSourceUp m x) && late) (λ a. rw a (timer-twice m x)) (λ a. rw a)
+
+unheard-source : (hold : Bool) (g : Settings) (x : Received) (from : State) → isHeard x ≡ false
+    → isSourceUp (modeIn g) (stateBy hold g x from) ≡ isSourceUp (modeIn g) from
+unheard-source hold g CrossedMessage from h = source-still (modeIn g) from byCrossed
+unheard-source hold g (HeardCc p) from h = no-way refl h
+unheard-source hold g HeardCv from h = no-way refl h
+unheard-source hold g (FaultMessage f) from h =
+    split (actsOn g f)
+    (λ a. rw a (split (eqb (f .kind) 1) (λ k. rw k (source-still (modeIn g) from byLinkDown)) (λ k. rw k (source-still (modeIn g) from byLockReport))))
+    (λ a. rw a)
 
 -- the state at the reading of each event is what the event leaves
 opened-state : (g : Settings) (t : ℕ) → stateAt t (opened g t) ≡ Down
-unfolding stateAt loss timedFrom state
-opened-state g t = ap (λ (b : Bool). cond b (moved Down Timer) Down) (and-no (not (locked (opened g t))) (past-none t (detectionTime (settingsOf (opened g t) .period) (multiplierOf (opened g t)))))
+unfolding stateAt lossIn timedFrom state
+opened-state g t =
+    ap (λ (b : Bool). cond b (movedIn (mode (opened g t)) Down Timer) Down)
+    (and-no (not (locked (opened g t)))
+    (and-no (not (isSourceUp (mode (opened g t)) Down)) (past-none t (detectionTime (settingsOf (opened g t) .period) (multiplierOf (opened g t))))))
 
 locked-state : (s : Story) (u : ℕ) → stateAt u (lock s u) ≡ AdminDown
-unfolding stateAt loss locked state
+unfolding stateAt lossIn locked state
 locked-state s u = refl
 
 unlocked-state : (s : Story) (u : ℕ) → stateAt u (unlock s u) ≡ cond (locked s) Down (timed u s (state s))
-unfolding stateAt loss locked timedFrom multiplierOf settingsOf state
+unfolding stateAt lossIn locked timedFrom multiplierOf settingsOf state
 unlocked-state s u =
     split (locked s)
-    (λ e. rw (e, past-none u (detectionTime (settingsOf s .period) 3)))
-    (λ e. rw e
-    (split (past (timedFrom s) (detectionTime (settingsOf s .period) (multiplierOf s)) u) (λ a. rw a (timer-twice (state s))) (λ a. rw a)))
+    (λ e. rw (e, past-none u (detectionTime (settingsOf s .period) 3), and-false (not (isSourceUp (mode s) Down))))
+    (λ e. rw e (overdue-twice (mode s) (past (timedFrom s) (detectionTime (settingsOf s .period) (multiplierOf s)) u) (state s)))
+
+got-source : (s : Story) (m : Message) (u : ℕ) (x : Received) → wasTo s m ≡ x → isHeard x ≡ false → isSourceUp (mode s) (state (got s m u)) ≡ isSourceUp (mode s) (state s)
+unfolding state
+got-source s m u x e h =
+    ap (λ (y : Received). isSourceUp (mode s) (stateBy (held u s) (settingsOf s) y (afterTimer u s (state s)))) e
+    ∙ unheard-source (held u s) (settingsOf s) x (afterTimer u s (state s)) h
+    ∙ timer-source (loss u s) (mode s) (state s)
 
 -- a message that does not restart the detection time leaves the loss as it was
 got-loss : (s : Story) (m : Message) (u : ℕ) (x : Received) → wasTo s m ≡ x → isHeard x ≡ false → loss u (got s m u) ≡ loss u s
-unfolding loss locked timedFrom multiplierOf settingsOf
-got-loss s m u CrossedMessage e h = rw e
-got-loss s m u (HeardCc p) e h = absurd (let z : _≡_ {A = ℕ} 0 1 = cc in omega arith)
-got-loss s m u HeardCv e h = absurd (let z : _≡_ {A = ℕ} 0 1 = cc in omega arith)
-got-loss s m u (FaultMessage f) e h = rw e
+unfolding lossIn locked timedFrom multiplierOf settingsOf
+got-loss s m u CrossedMessage e h =
+    λ i. not (locked s) && (not (got-source s m u CrossedMessage e h i) && past (cond (isHeard (e i)) u (timedFrom s)) (detectionTime (settingsOf s .period) (multiplierBy (e i) (multiplierOf s))) u)
+got-loss s m u (HeardCc p) e h = no-way refl h
+got-loss s m u HeardCv e h = no-way refl h
+got-loss s m u (FaultMessage f) e h =
+    λ i. not (locked s) && (not (got-source s m u (FaultMessage f) e h i) && past (cond (isHeard (e i)) u (timedFrom s)) (detectionTime (settingsOf s .period) (multiplierBy (e i) (multiplierOf s))) u)
 
 heard-loss : (s : Story) (m : Message) (u : ℕ) → isHeard (wasTo s m) ≡ true → loss u (got s m u) ≡ false
-unfolding loss timedFrom
-heard-loss s m u e = and-no (not (locked (got s m u))) (rw e (past-none u (detectionTime (settingsOf (got s m u) .period) (multiplierOf (got s m u)))))
+unfolding lossIn timedFrom
+heard-loss s m u e =
+    and-no (not (locked (got s m u)))
+    (and-no (not (isSourceUp (mode (got s m u)) (state (got s m u)))) (rw e (past-none u (detectionTime (settingsOf (got s m u) .period) (multiplierOf (got s m u))))))
 
 got-state : (s : Story) (m : Message) (u : ℕ) (x : Received) → wasTo s m ≡ x → stateAt u (got s m u) ≡ stateBy (held u s) (settingsOf s) x (timed u s (state s))
-unfolding stateAt state
+unfolding stateAt state settingsOf
 got-state s m u CrossedMessage e =
-    ap (λ (b : Bool). cond b (moved (stateBy (held u s) (settingsOf s) (wasTo s m) (timed u s (state s))) Timer) (stateBy (held u s) (settingsOf s) (wasTo s m) (timed u s (state s)))) (got-loss s m u CrossedMessage e refl)
-    ∙ rw e (split (loss u s) (λ a. rw a (crossed-down (state s))) (λ a. rw a))
+    ap (λ (b : Bool). cond b (movedIn (mode s) (stateBy (held u s) (settingsOf s) (wasTo s m) (timed u s (state s))) Timer) (stateBy (held u s) (settingsOf s) (wasTo s m) (timed u s (state s)))) (got-loss s m u CrossedMessage e refl)
+    ∙ rw e (split (loss u s) (λ a. rw a (timer-around (mode s) (state s) byCrossed)) (λ a. rw a))
 got-state s m u (HeardCc p) e =
-    ap (λ (b : Bool). cond b (moved (stateBy (held u s) (settingsOf s) (wasTo s m) (timed u s (state s))) Timer) (stateBy (held u s) (settingsOf s) (wasTo s m) (timed u s (state s))))
+    ap (λ (b : Bool). cond b (movedIn (mode s) (stateBy (held u s) (settingsOf s) (wasTo s m) (timed u s (state s))) Timer) (stateBy (held u s) (settingsOf s) (wasTo s m) (timed u s (state s))))
     (heard-loss s m u (ap isHeard e)) ∙ ap (λ (y : Received). stateBy (held u s) (settingsOf s) y (timed u s (state s))) e
 got-state s m u HeardCv e =
-    ap (λ (b : Bool). cond b (moved (stateBy (held u s) (settingsOf s) (wasTo s m) (timed u s (state s))) Timer) (stateBy (held u s) (settingsOf s) (wasTo s m) (timed u s (state s))))
+    ap (λ (b : Bool). cond b (movedIn (mode s) (stateBy (held u s) (settingsOf s) (wasTo s m) (timed u s (state s))) Timer) (stateBy (held u s) (settingsOf s) (wasTo s m) (timed u s (state s))))
     (heard-loss s m u (ap isHeard e)) ∙ ap (λ (y : Received). stateBy (held u s) (settingsOf s) y (timed u s (state s))) e
 got-state s m u (FaultMessage f) e =
-    ap (λ (b : Bool). cond b (moved (stateBy (held u s) (settingsOf s) (wasTo s m) (timed u s (state s))) Timer) (stateBy (held u s) (settingsOf s) (wasTo s m) (timed u s (state s)))) (got-loss s m u (FaultMessage f) e refl)
-    ∙ rw e (split (loss u s) (λ a. rw a (fault-down (actsOn (settingsOf s) f) (f .kind) (state s))) (λ a. rw a))
+    ap (λ (b : Bool). cond b (movedIn (mode s) (stateBy (held u s) (settingsOf s) (wasTo s m) (timed u s (state s))) Timer) (stateBy (held u s) (settingsOf s) (wasTo s m) (timed u s (state s)))) (got-loss s m u (FaultMessage f) e refl)
+    ∙ rw e (split (loss u s) (λ a. rw a (fault-again (mode s) (actsOn (settingsOf s) f) (f .kind) (state s))) (λ a. rw a))
 
 wrote-state : (s : Story) (u : ℕ) → stateAt u (wroteCc s) ≡ stateAt u s
-unfolding stateAt loss locked timedFrom multiplierOf settingsOf state
+unfolding stateAt lossIn locked timedFrom multiplierOf settingsOf state
 wrote-state s u = refl
 
 stateAt-timed : (s : Story) (u : ℕ) → stateAt u s ≡ timed u s (state s)

@@ -1,9 +1,10 @@
 -- Which calls account for what stands: positions in the history, accepted calls, their arguments and readings, and nothing that was
--- computed from them ("While a thing stands, these calls account for it").
+-- computed from them, but for the state of a source ("While a thing stands, these calls account for it").
 -- Assumes nothing.
 use Prim.Native.Nat.{ℕ, suc, _+_, _*_, _<_}
 use mathlib.Core.Path.{_≡_}
 use mathlib.Core.Bool.{true, false}
+use mathlib.Core.Option.{some}
 use mathlib.Core.List.{List}
 use mathlib.Core.Logic.{_⊎_, _↔_}
 use Rattle.bfd.specs.declared.Packet.{Packet}
@@ -16,8 +17,11 @@ use Rattle.rules.specs.declared.Received.the-variants.{CrossedMessage, HeardCc,
 use Rattle.rules.specs.Received.{receivedAs}
 use Rattle.rules.specs.Conditions.{keyOf, sameKey}
 use Rattle.rules.specs.Lists.{any, once}
+use Rattle.rules.specs.Modes.{modeIn, isSourceUp}
 use Rattle.rules.specs.Calls.{Close, Lock, Unlock, Receive, Call, Open, On, isAccepted}
-use Rattle.meaning.specs.Histories.{History, start, after}
+use Rattle.meaning.specs.Stories.{Story}
+use Rattle.meaning.specs.Standing.{state}
+use Rattle.meaning.specs.Histories.{History, start, after, story}
 
 -- how many calls a history has: the position of the next
 unfoldable pub size : History → ℕ
@@ -90,6 +94,8 @@ pub record AccountsForLoss (h : History) (l now p : ℕ) : Type 0 where
   pub restart : Restart h l o settings p reading
   pub latest : (q u : ℕ) → p < q → Restart h l o settings q u → ⊥
   pub unlocked : LockedBefore h l o (size h) → ⊥
+  -- a source that the accepted calls leave in UP has no loss
+  pub exposed : (s : Story) → story l h ≡ some s → isSourceUp (modeIn settings) (state s) ≡ false
   pub multiplier : ℕ
   pub times : Multiplier h l o settings multiplier
   pub over : reading + settings .period * multiplier < now

@@ -7,6 +7,7 @@ use lib.ListN.{length}
 use Rattle.bfd.specs.declared.Packet.{Packet}
 use Rattle.bfd.specs.Octets.{ccOctets}
 use Rattle.cv.specs.Cv.{cvOctets}
+use Rattle.rules.specs.declared.Mode.{Mode}
 use Rattle.rules.specs.declared.Settings.{Settings}
 use Rattle.rules.specs.declared.State.{State}
 use Rattle.rules.specs.declared.State.the-variants.{AdminDown, Down}
@@ -16,11 +17,16 @@ use Rattle.rules.specs.declared.Report.{Report}
 use Rattle.rules.specs.declared.Received.{Received}
 use Rattle.rules.specs.declared.Received.the-variants.{CrossedMessage, HeardCc, HeardCv, FaultMessage}
 use Rattle.rules.specs.Times.{past, within, detectionTime, crossingTime, lifetime}
-use Rattle.rules.specs.States.{moved, heardInput, downByNeighbor}
+use Rattle.rules.specs.States.{heardInput, downByNeighbor}
+use Rattle.rules.specs.Modes.{modeIn, movedIn, isSourceUp, isCoordinated, requiredInterval}
 use Rattle.rules.specs.Conditions.{keyOf, sameKey, follows, actsOn, faultState}
 use Rattle.rules.specs.Diagnostics.{remoteDefect, diagnosticOf, reportOf, packetOut}
 use Rattle.rules.specs.Lists.{any, only}
 use Rattle.meaning.specs.Stories.{Story, opened, lock, unlock, got, wroteCc, settingsOf, wasTo, isCrossed, isHeard}
+
+-- the mode that the opening gave
+abbrev pub mode : Story → Mode
+mode s = modeIn (settingsOf s)
 
 -- locked when the last accepted lock or unlock since opening is a lock
 unfoldable pub locked : Story → Bool
@@ -60,9 +66,10 @@ multiplierOf (unlock s t) = cond (locked s) 3 (multiplierOf s)
 multiplierOf (got s m t) = multiplierBy (wasTo s m) (multiplierOf s)
 multiplierOf (wroteCc s) = multiplierOf s
 
--- loss: not locked, and more than period times multiplier has gone since
-unfoldable pub loss : ℕ → Story → Bool
-loss now s = not (locked s) && past (timedFrom s) (detectionTime (settingsOf s .period) (multiplierOf s)) now
+-- loss, of a session that its calls left in the state `from`: not locked, no source in UP, and more than period times multiplier has gone since
+unfoldable pub lossIn : ℕ → Story → State → Bool
+lossIn now s from =
+    not (locked s) && (not (isSourceUp (mode s) from) && past (timedFrom s) (detectionTime (settingsOf s .period) (multiplierOf s)) now)
 
 abbrev pub diagnosticBy : Received → ℕ → ℕ
 diagnosticBy CrossedMessage old = old
@@ -156,28 +163,40 @@ conditions now s = length (only (stands now s) (keysOf s))
 unfoldable pub followed : ℕ → Story → Bool
 followed now s = any (λ key. stands now s key && followedLast s key) (keysOf s)
 
--- held down: a crossing stands, or a condition that the session follows
+-- a crossing stands, or a condition that the session follows
+unfoldable pub defect : ℕ → Story → Bool
+defect now s = crossing now s || followed now s
+
+-- held down: a coordinated session while one of these stands
 unfoldable pub held : ℕ → Story → Bool
-held now s = crossing now s || followed now s
+held now s = isCoordinated (mode s) && defect now s
+
+-- TIMER, where there is a loss
+abbrev pub afterTimer : ℕ → Story → State → State
+afterTimer now s from = cond (lossIn now s from) (movedIn (mode s) from Timer) from
 
 abbrev pub stateBy : Bool → Settings → Received → State → State
-stateBy hold g CrossedMessage from = moved from Crossed
-stateBy hold g (HeardCc p) from = moved from (heardInput hold (p .state))
+stateBy hold g CrossedMessage from = movedIn (modeIn g) from Crossed
+stateBy hold g (HeardCc p) from = movedIn (modeIn g) from (heardInput hold (p .state))
 stateBy hold g HeardCv from = from
-stateBy hold g (FaultMessage f) from = faultState (actsOn g f) from (f .kind)
+stateBy hold g (FaultMessage f) from = faultState (modeIn g) (actsOn g f) from (f .kind)
 
 -- the state after the story's last call. Before a call acts, TIMER is given where there is a loss at its reading; whether a message finds
 -- the session held down is judged at its reading, on the story before it
 unfoldable pub state : Story → State
 state (opened g t) = Down
 state (lock s t) = AdminDown
-state (unlock s t) = cond (locked s) Down (cond (loss t s) (moved (state s) Timer) (state s))
-state (got s m t) = stateBy (held t s) (settingsOf s) (wasTo s m) (cond (loss t s) (moved (state s) Timer) (state s))
+state (unlock s t) = cond (locked s) Down (afterTimer t s (state s))
+state (got s m t) = stateBy (held t s) (settingsOf s) (wasTo s m) (afterTimer t s (state s))
 state (wroteCc s) = state s
+
+-- loss at the clock
+abbrev pub loss : ℕ → Story → Bool
+loss now s = lossIn now s (state s)
 
 -- the state at the clock, TIMER given
 unfoldable pub stateAt : ℕ → Story → State
-stateAt now s = cond (loss now s) (moved (state s) Timer) (state s)
+stateAt now s = afterTimer now s (state s)
 
 -- the report, the diagnostic and the messages of a session at the clock
 unfoldable pub report : ℕ → Story → Report
@@ -188,7 +207,9 @@ unfoldable pub diagnostic : ℕ → Story → ℕ
 diagnostic now s = diagnosticOf (locked s) (crossing now s) (followed now s) (loss now s) (downByNeighbor (stateAt now s))
 
 unfoldable pub packet : ℕ → Story → Bool → Packet
-packet now s fin = packetOut (diagnostic now s) (stateAt now s) fin (settingsOf s .discriminator) (remoteOf s) (settingsOf s .period)
+packet now s fin =
+    packetOut (diagnostic now s) (stateAt now s) fin (settingsOf s .discriminator) (remoteOf s) (settingsOf s .period)
+    (requiredInterval (mode s) (settingsOf s .period))
 
 unfoldable pub ccWritten : ℕ → Story → List ℕ
 ccWritten now s = ccOctets (packet now s (owed s))

@@ -10,15 +10,15 @@ use Rattle.message.specs.Message.{messageOf}
 use Rattle.rules.specs.declared.State.{State}
 use Rattle.rules.specs.declared.State.the-variants.{AdminDown, Down}
 use Rattle.rules.specs.declared.Input.the-variants.{Timer}
-use Rattle.rules.specs.States.{moved}
+use Rattle.rules.specs.Modes.{movedIn}
 use Rattle.rules.specs.Calls.{Act, Close, Lock, Unlock, Receive, ReportOn, WriteCc, WriteCv, Call, Tick, Open, On, isAccepted}
 use Rattle.meaning.specs.Stories.{Story, settingsOf, wasTo}
-use Rattle.meaning.specs.Standing.{locked, loss, held, stateBy, stateAt}
+use Rattle.meaning.specs.Standing.{mode, locked, loss, held, stateBy, stateAt}
 use Rattle.meaning.specs.Histories.{History, start, after, reading, clockOf, story}
 
 -- TIMER at a reading, to a session whose story is known
 abbrev pub timed : ℕ → Story → State → State
-timed u s from = cond (loss u s) (moved from Timer) from
+timed u s from = cond (loss u s) (movedIn (mode s) from Timer) from
 
 -- what the call itself does to the state of its own label, TIMER given
 abbrev pub acted : Act → Story → State → Option State

@@ -6,17 +6,17 @@ use mathlib.Core.Logic.{_⊎_, inl, inr}
 use Prim.Native.Nat.{ℕ, _≤_}
 use native.Mathlib.Omega.{arith}
 use lib.Dec.{eqb}
-use borrow.Author.Tests.{eqb-true}
+use borrow.Author.Tests.{eqb-true, not-true}
 use Rattle.octets.specs.Choice.{bitOf}
 use Rattle.rules.specs.declared.Mode.{Mode}
-use Rattle.rules.specs.declared.Mode.the-variants.{Coordinated, Source}
+use Rattle.rules.specs.declared.Mode.the-variants.{Source}
 use Rattle.rules.specs.declared.State.{State}
 use Rattle.rules.specs.declared.State.the-variants.{AdminDown, Down, NeighborDown, Init, Up}
 use Rattle.rules.specs.declared.Input.{Input}
 use Rattle.rules.specs.declared.Input.the-variants.{GotAdminDown, GotDown, GotInit, GotUp, Timer, LinkDown, LockReport, Crossed}
-use Rattle.rules.specs.States.{moved, received, heardInput, reported, isLocked, downByNeighbor, isComingUp, stored, stateOf}
+use Rattle.rules.specs.States.{received, heardInput, reported, isLocked, downByNeighbor, isComingUp, stored, stateOf}
 use Rattle.rules.specs.Modes.{movedIn, isSourceUp, isCoordinated}
-use Rattle.rules.proofs.Bools.{implied, refuted, true-false}
+use Rattle.rules.proofs.Bools.{implied}
 use Rattle.rules.proofs.Cells.{inEveryCell, every-cell}
 
 pub state-stored : (s : State) → stateOf (stored s) ≡ s
@@ -83,10 +83,10 @@ pub no-rise : (m : Mode) (s : State) {i : Input} → Lowering i → isComingUp (
 no-rise m s {i} w up = implied up (lowering-cell (λ n t j. not (isComingUp (movedIn n t j)) || isComingUp t) refl m s w)
 
 -- a coordinated session is not coming up behind it at all
-pub lowered : (s : State) {i : Input} → Lowering i → isComingUp (moved s i) ≡ false
-lowered s {i} w =
-    refuted (isComingUp (moved s i))
-    (λ up. true-false (implied up (lowering-cell (λ n t j. not (isComingUp (movedIn n t j)) || not (isCoordinated n)) refl Coordinated s w)) refl)
+pub lowered : (m : Mode) (s : State) {i : Input} → isCoordinated m ≡ true → Lowering i → isComingUp (movedIn m s i) ≡ false
+lowered m s {i} c w =
+    not-true (isComingUp (movedIn m s i))
+    (implied c (lowering-cell (λ n t j. not (isCoordinated n) || not (isComingUp (movedIn n t j))) refl m s w))
 
 -- and a source in UP stays there, one that is not in UP does not come there
 pub source-still : (m : Mode) (s : State) {i : Input} → Lowering i → isSourceUp m (movedIn m s i) ≡ isSourceUp m s
@@ -113,15 +113,13 @@ pub unheld-received : (state : ℕ) → heardInput false state ≡ received stat
 unheld-received state = refl
 
 -- so no received state brings a held session up, and none gives or ends DOWN by a received state
-pub held-lowered : (s : State) (state : ℕ) → isComingUp (moved s (heardInput true state)) ≡ false
-held-lowered s state = lowered s byTimer
+pub held-lowered : (m : Mode) (s : State) (state : ℕ) → isCoordinated m ≡ true → isComingUp (movedIn m s (heardInput true state)) ≡ false
+held-lowered m s state c = lowered m s c byTimer
 
-pub held-neighbor : (s : State) (state : ℕ) → downByNeighbor (moved s (heardInput true state)) ≡ downByNeighbor s
-held-neighbor AdminDown state = refl
-held-neighbor Down state = refl
-held-neighbor NeighborDown state = refl
-held-neighbor Init state = refl
-held-neighbor Up state = refl
+pub held-neighbor : (m : Mode) (s : State) (state : ℕ) → downByNeighbor (movedIn m s (heardInput true state)) ≡ downByNeighbor s
+held-neighbor m s state =
+    bit-same (downByNeighbor (movedIn m s Timer)) (downByNeighbor s)
+    (every-cell (λ n t j. eqb (bitOf (downByNeighbor (movedIn n t Timer))) (bitOf (downByNeighbor t))) refl m s Timer)
 
 -- no input locks or unlocks
 pub moved-locked : (m : Mode) (s : State) (i : Input) → isLocked (movedIn m s i) ≡ isLocked s
