@@ -3,7 +3,7 @@
 use Prim.Native.Nat.{ℕ, suc, _+_, _-_, _*_, _≤_, _<_}
 use native.Mathlib.Omega.{arith}
 use mathlib.Core.Path.{_≡_, refl, sym, ap, _∙_}
-use mathlib.Core.Bool.{true, false, not}
+use mathlib.Core.Bool.{true, false, not, _&&_}
 use mathlib.Core.Option.{none, some}
 use mathlib.Core.Logic.{_↔_}
 use borrow.Author.Tests.{ltb-true, lt-ltb, not-true}
@@ -12,10 +12,11 @@ use Rattle.octets.proofs.Chain.{and-both}
 use Rattle.rules.specs.Times.{past}
 use Rattle.rules.proofs.Bools.{both-true, true-false}
 use Rattle.meaning.specs.Stories.{Story, settingsOf}
-use Rattle.meaning.specs.Standing.{locked, timedFrom, multiplierOf, loss}
+use Rattle.rules.specs.Modes.{isSourceUp}
+use Rattle.meaning.specs.Standing.{mode, locked, timedFrom, multiplierOf, lossIn, loss, state}
 use Rattle.meaning.specs.Histories.{History, clockOf, story}
 use Rattle.meaning.specs.Accounts.{Restart, AccountsForLoss}
-use Rattle.meaning.proofs.Losses.{locked-accounted, restart-reading, multiplier-there}
+use Rattle.meaning.proofs.Losses.{one-story, locked-accounted, restart-reading, multiplier-there}
 use Rattle.cause.specs.declared.Timed.{Timed}
 use Rattle.cause.specs.declared.Timed.the-variants.{Opening as ByOpening}
 use Rattle.cause.specs.Marks.{Mark, lastRestart}
@@ -26,13 +27,19 @@ use Rattle.cause.proofs.Sorts.{Restarted, restart-of, timed-as, restart
 use Rattle.cause.proofs.Asked.{granted, by-mark}
 
 -- what a loss says
-pub lost : (now : ℕ) (s : Story) → loss now s ≡ true → (locked s ≡ false) × (timedFrom s + settingsOf s .period * multiplierOf s < now)
-unfolding loss past
-lost now s e = let w = and-both (not (locked s)) _ e in (not-true (locked s) (w .0), ltb-true _ now (w .1))
+pub lost : (now : ℕ) (s : Story) → loss now s ≡ true
+    → (locked s ≡ false) × (timedFrom s + settingsOf s .period * multiplierOf s < now) × (isSourceUp (mode s) (state s) ≡ false)
+unfolding lossIn past
+lost now s e =
+    let up = isSourceUp (mode s) (state s) in
+    let w = and-both (not (locked s)) (not up && past (timedFrom s) (settingsOf s .period * multiplierOf s) now) e in
+    let v = and-both (not up) (past (timedFrom s) (settingsOf s .period * multiplierOf s) now) (w .1) in
+    (not-true (locked s) (w .0), ltb-true _ now (v .1), not-true up (v .0))
 
-is-lost : (now : ℕ) (s : Story) → locked s ≡ false → timedFrom s + settingsOf s .period * multiplierOf s < now → loss now s ≡ true
-unfolding loss past
-is-lost now s n b = both-true (ap not n) (lt-ltb _ now b)
+is-lost : (now : ℕ) (s : Story) → locked s ≡ false → isSourceUp (mode s) (state s) ≡ false
+    → timedFrom s + settingsOf s .period * multiplierOf s < now → loss now s ≡ true
+unfolding lossIn past
+is-lost now s n u b = both-true (ap not n) (both-true (ap not u) (lt-ltb _ now b))
 
 module _ (h : History) (l : ℕ) (s : Story) (e : story l h ≡ some s) where
   marks : Known Restarted h l (settingsOf s) (lastRestart l h)
@@ -65,6 +72,7 @@ module _ (h : History) (l : ℕ) (s : Story) (e : story l h ≡ some s) where
           restart = mark-restart;
           latest = mark-latest;
           unlocked = λ b. true-false (locked-accounted h l s e (marks .o) (settingsOf s) (marks .t) (marks .opening) .1 b) (lost now s c .0);
+          exposed = λ r f′. ap (λ (q : Story). isSourceUp (mode s) (state q)) (one-story h l s r e f′) ∙ lost now s c .2;
           multiplier = multiplierOf s;
           times = multiplier-there h l s e (marks .o) (settingsOf s) (marks .t) (marks .opening);
           over = let i = mark-timed in let j = lost now s c .1 in omega arith;
@@ -79,7 +87,7 @@ module _ (h : History) (l : ℕ) (s : Story) (e : story l h ≡ some s) where
 
 -- a loss stands from its end on, at whatever clock it was found
 pub loss-from : (now : ℕ) (s : Story) → loss now s ≡ true → (t : ℕ) → (loss t s ≡ true) ↔ (suc (timedFrom s + settingsOf s .period * multiplierOf s) ≤ t)
-loss-from now s c t = (λ d. lost t s d .1, λ b. is-lost t s (lost now s c .0) b)
+loss-from now s c t = (λ d. lost t s d .1, λ b. is-lost t s (lost now s c .0) (lost now s c .2) b)
 
 pub loss-cause : (h : History) (l : ℕ) (c : Cause) → causeOf h l Loss ≡ accepted c → LossReason h l c
 unfolding mark-accounts

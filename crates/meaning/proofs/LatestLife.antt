@@ -27,7 +27,7 @@ use Rattle.meaning.proofs.Positions.{took-below, took-on, took-new, too
 use Rattle.meaning.proofs.Sim.{more-open}
 
 -- every accepted open found its label shut
-pub Begun : History → Type 0
+unfoldable pub Begun : History → Type 0
 Begun start = Unit {0}
 Begun (after h c a) = Begun h × ((g : Settings) (t : ℕ) → c ≡ Open g t → isAccepted a ≡ true → isOpen (story (g .label) h) ≡ false)
 

@@ -20,4 +20,6 @@ pub mod OtherKeys
 pub mod Further
 pub mod HoldDown
 pub mod HeldAnswers
+pub mod Machines
+pub mod Sources
 pub mod Readings

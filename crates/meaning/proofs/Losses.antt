@@ -545,6 +545,10 @@ module _ (h : History) (l : ℕ) (s : Story) (e : story l h ≡ some s) (o : ℕ
   multiplier-accounted k =
       (λ m. multiplier-one h l o g m multiplier-there, λ f. subst (λ (j : ℕ). Multiplier h l o g j) (sym f) multiplier-there)
 
+-- a label has one story
+pub one-story : (h : History) (l : ℕ) (s r : Story) → story l h ≡ some s → story l h ≡ some r → r ≡ s
+one-story h l s r e f = let z : some r ≡ some s = sym f ∙ e in cc
+
 -- a loss stands exactly where a call accounts for it: not locked, no source in UP, and more than period times multiplier has gone since the latest restart
 pub loss-accounted : (h : History) (l : ℕ) (s : Story) → story l h ≡ some s → (now : ℕ)
     → (loss now s ≡ true → (p : ℕ) × AccountsForLoss h l now p) × ((p : ℕ) → AccountsForLoss h l now p → loss now s ≡ true)
@@ -553,9 +557,6 @@ loss-accounted h l s e now = (there, back)
   where
     lost : Bool
     lost = not (locked s) && (not (isSourceUp (mode s) (state s)) && past (timedFrom s) (settingsOf s .period * multiplierOf s) now)
-
-    the-story : (r : Story) → story l h ≡ some r → r ≡ s
-    the-story r f = let z : some r ≡ some s = sym f ∙ e in cc
 
     there : lost ≡ true → (p : ℕ) × AccountsForLoss h l now p
     there z =
@@ -574,7 +575,7 @@ loss-accounted h l s e now = (there, back)
             restart = I .restart;
             latest = I .latest;
             unlocked = λ k. true-false (I .lock-seen k) (not-true (locked s) (x .0));
-            exposed = λ r f. ap (λ (q : Story). isSourceUp (mode s) (state q)) (the-story r f) ∙ not-true up (y .0);
+            exposed = λ r f. ap (λ (q : Story). isSourceUp (mode s) (state q)) (one-story h l s r e f) ∙ not-true up (y .0);
             multiplier = multiplierOf s;
             times = I .times;
             over = ltb-true (timedFrom s + settingsOf s .period * multiplierOf s) now (y .1);

@@ -10,3 +10,4 @@ pub mod Lives
 pub mod Demand
 pub mod Further
 pub mod HoldDown
+pub mod Machines
