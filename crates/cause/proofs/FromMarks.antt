@@ -3,7 +3,7 @@
 use Prim.Native.Nat.{ℕ, suc, _+_, _≤_, _<_}
 use native.Mathlib.Omega.{arith}
 use mathlib.Core.Path.{_≡_, refl, sym, ap, _∙_, subst}
-use mathlib.Core.Bool.{Bool, true, false, cond, not}
+use mathlib.Core.Bool.{Bool, true, false, cond, not, _&&_}
 use mathlib.Core.Option.{Option, none, some}
 use mathlib.Core.Logic.{⊎-elim}
 use mathlib.Core.List.{List, [], _∷_}
@@ -22,7 +22,7 @@ use Rattle.rules.proofs.SameKeys.{same-sym, same-refl, same-trans}
 use Rattle.conditions.specs.declared.Condition.{Condition}
 use Rattle.conditions.specs.Standing.{filled, placeStands}
 use Rattle.session.specs.declared.Session.{Session}
-use Rattle.session.specs.Queries.{lockedIn, lossAt, crossingAt}
+use Rattle.session.specs.Queries.{lockedIn, sourceUpIn, lossAt, crossingAt}
 use Rattle.session.proofs.Sound.{Says, sound-says}
 use Rattle.meaning.specs.Stories.{Story}
 use Rattle.meaning.specs.Standing.{crossing, loss, stands, keysOf}
@@ -144,7 +144,9 @@ module _ (h : History) (l : ℕ) (s : Story) (e : story l h ≡ some s) (r : Ses
   loss-gone : loss now s ≡ true → r .timed + detectionTime (r .settings .period) (r .peer .multiplier) < now
   unfolding lossAt past
   loss-gone c =
-      ltb-true _ now (and-both (not (lockedIn r)) (past (r .timed) (detectionTime (r .settings .period) (r .peer .multiplier)) now) (same-loss F now ∙ c) .1)
+      let gone = past (r .timed) (detectionTime (r .settings .period) (r .peer .multiplier)) now in
+      let free = and-both (not (lockedIn r)) (not (sourceUpIn r) && gone) (same-loss F now ∙ c) .1 in
+      ltb-true _ now (and-both (not (sourceUpIn r)) gone free .1)
 
   from-loss : loss now s ≡ true
       → because true now (m .timed) (r .timed) (laterBy (r .timed) (suc (detectionTime (r .settings .period) (r .peer .multiplier)))) ≡ causeBy now (lossFrom s) (lastRestart l h)
