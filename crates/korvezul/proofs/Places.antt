@@ -47,8 +47,8 @@ agi-laid = record { octets = refl; aligned = refl; fields = (refl, (refl, (refl,
 pub mep-id-laid : Laid mep-id 48 8 (0 ∷ 32 ∷ 36 ∷ 40 ∷ 44 ∷ 46 ∷ 47 ∷ [])
 mep-id-laid = record { octets = refl; aligned = refl; fields = (refl, (refl, (refl, (refl, (refl, (refl, (refl, refl))))))) }
 
-pub settings-laid : Laid settings 112 8 (0 ∷ 48 ∷ 96 ∷ 100 ∷ 104 ∷ 108 ∷ 109 ∷ [])
-settings-laid = record { octets = refl; aligned = refl; fields = (refl, (refl, (refl, (refl, (refl, (refl, (refl, refl))))))) }
+pub settings-laid : Laid settings 112 8 (0 ∷ 48 ∷ 96 ∷ 100 ∷ 104 ∷ 108 ∷ 109 ∷ 110 ∷ [])
+settings-laid = record { octets = refl; aligned = refl; fields = (refl, (refl, (refl, (refl, (refl, (refl, (refl, (refl, refl)))))))) }
 
 pub key-laid : Laid key 16 4 (0 ∷ 4 ∷ 8 ∷ 12 ∷ 13 ∷ 14 ∷ [])
 key-laid = record { octets = refl; aligned = refl; fields = (refl, (refl, (refl, (refl, (refl, (refl, refl)))))) }

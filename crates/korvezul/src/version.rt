@@ -2,10 +2,10 @@
 ghost use mathlib.Core.Path.{_≡_};
 ghost use Rattle.korvezul.specs.Version.{version};
 
-// 4.1.0: a MEP-ID may be a pseudowire's (4.0); a live table can be asked why (4.1).
+// 5.0.0: the settings have a mode, in an octet that was nobody's before.
 #[no_mangle]
 pub extern "C" fn korvezul_version() -> u32
     ensures { λ r. ⌜ r ≡ version ⌝ }
 {
-    262400
+    327680
 }
