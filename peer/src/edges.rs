@@ -16,7 +16,7 @@ pub enum Edge {
 /// All edges of a session, past ones included.
 pub fn of(session: &Session) -> Vec<(Edge, u64)> {
     let mut edges = Vec::with_capacity(6);
-    if !session.is_locked() {
+    if session.is_timed() {
         edges.push((Edge::Detection, session.detection_end()));
     }
     if let Some(date) = session.last_misconnected {

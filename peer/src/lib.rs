@@ -3,7 +3,7 @@
 //! alarm indication and lock report), written from the rules paper alone.
 //!
 //! It exists to be compared with another implementation: it reads the same
-//! captures and prints the same text.
+//! captures and prints the same text, and it plays the same lists of calls.
 
 pub mod assemble;
 pub mod capture;
@@ -11,7 +11,9 @@ pub mod check;
 pub mod cover;
 pub mod distinct;
 pub mod edges;
+pub mod list;
 pub mod load;
+pub mod machine;
 pub mod make;
 pub mod mep_id;
 pub mod message;

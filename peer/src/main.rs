@@ -1,7 +1,7 @@
 //! Command line of the second implementation.
 
 use peer::why::question::{self, Question};
-use peer::{assemble, check, cover, load, make, morning, own, watch, why};
+use peer::{assemble, check, cover, list, load, make, morning, own, watch, why};
 use std::io::{self, BufReader, BufWriter, Write};
 use std::path::Path;
 use std::process::ExitCode;
@@ -10,6 +10,9 @@ const USAGE: &str = "usage: peer watch [--own-table] < capture
        peer why LABEL THING [if=NODE/INTERFACE] [global=ID] [upto=RECORD] < capture
        peer make [--ties] SEED > capture
        peer assemble TEXT > capture
+       peer lists FOLDER
+       peer spell LIST > list
+       peer answer < list
        peer check N [--program PATH]
        peer check-why N [--program PATH]
        peer cover N
@@ -53,6 +56,15 @@ fn run(words: &[&str]) -> io::Result<ExitCode> {
             let capture = assemble::assemble(&text)
                 .map_err(|mistake| io::Error::other(format!("{path}, {mistake}")))?;
             print(|output| output.write_all(&capture))
+        }
+        ["lists", folder] => lists(Path::new(folder)),
+        ["spell", path] => {
+            let lines = list_at(Path::new(path))?;
+            print(|output| output.write_all(list::spell(&lines).as_bytes()))
+        }
+        ["answer"] => {
+            let input = BufReader::with_capacity(BUFFER, io::stdin().lock());
+            print(|output| list::answer(input, output))
         }
         ["check", count] => compare(number(count)?, DEFAULT_PROGRAM),
         ["check", count, "--program", path] => compare(number(count)?, path),
@@ -103,6 +115,30 @@ fn answer(words: &[&str]) -> io::Result<ExitCode> {
             Ok(ExitCode::from(2))
         }
     }
+}
+
+/// Plays every list of a folder and says what was answered otherwise.
+fn lists(folder: &Path) -> io::Result<ExitCode> {
+    let (mut lists, mut calls, mut wrong) = (0, 0, 0);
+    for path in list::of_folder(folder)? {
+        let played = list::play(&list_at(&path)?);
+        for difference in &played.wrong {
+            println!("{}, {difference}", path.display());
+        }
+        lists += 1;
+        calls += played.calls;
+        wrong += played.wrong.len();
+    }
+    println!("{lists} lists, {calls} calls, {wrong} of them answered otherwise");
+    Ok(match (calls, wrong) {
+        (1.., 0) => ExitCode::SUCCESS,
+        _ => ExitCode::FAILURE,
+    })
+}
+
+fn list_at(path: &Path) -> io::Result<Vec<list::Line>> {
+    let text = std::fs::read_to_string(path)?;
+    list::read(&text).map_err(|mistake| io::Error::other(format!("{}, {mistake}", path.display())))
 }
 
 fn compare(count: u64, program: &str) -> io::Result<ExitCode> {

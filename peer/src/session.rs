@@ -1,5 +1,6 @@
 //! One session: what it keeps, how it moves and what it says of itself.
 
+use crate::machine::{self, Input, Mode};
 use crate::mep_id::LONGEST_VALUE;
 use crate::message::{Bfd, Fault, FaultKind, Message, Origin, State, CHANNEL_CC, CHANNEL_CV};
 use crate::refusal::Refusal;
@@ -117,9 +118,16 @@ impl Session {
         self.detecting_since + u64::from(self.settings.period) * u64::from(self.multiplier)
     }
 
+    /// Whether silence counts: not while locked, and not for a source in UP,
+    /// which nothing times out.
+    pub fn is_timed(&self) -> bool {
+        let source_up = self.settings.mode == Mode::SOURCE && self.state == State::Up;
+        !self.is_locked() && !source_up
+    }
+
     /// Loss of continuity: more than the detection time has gone.
     pub fn has_loss(&self, now: u64) -> bool {
-        !self.is_locked() && now > self.detection_end()
+        self.is_timed() && now > self.detection_end()
     }
 
     /// Misconnectivity: a message of another circuit came a
@@ -137,19 +145,21 @@ impl Session {
             .filter(move |condition| condition.stands(now))
     }
 
-    /// TIMER: a loss of continuity takes the session down.
+    /// TIMER is given where there is a loss of continuity.
     pub fn timer(&mut self, now: u64) {
         if self.has_loss(now) {
-            self.take_down();
+            self.give(Input::Timer);
         }
     }
 
-    /// Takes INIT or UP to DOWN, for a reason other than a received state.
-    fn take_down(&mut self) {
-        if matches!(self.state, State::Init | State::Up) {
-            self.state = State::Down;
-            self.taken_down_by_peer = false;
+    /// Moves the session. One that stays DOWN keeps what it remembers.
+    fn give(&mut self, input: Input) {
+        let next = machine::next(self.settings.mode, self.state, input);
+        if next != self.state {
+            let received = matches!(input, Input::Received(_));
+            self.taken_down_by_peer = received && next == State::Down;
         }
+        self.state = next;
     }
 
     /// Locking a locked session does nothing.
@@ -192,10 +202,10 @@ impl Session {
         }
     }
 
-    /// A message of another circuit is dated and takes INIT and UP to DOWN.
+    /// A message of another circuit is dated, in whatever mode.
     fn misconnect(&mut self, now: u64) {
         self.last_misconnected = Some(now);
-        self.take_down();
+        self.give(Input::Misconnected);
     }
 
     fn process_cc(&mut self, bfd: &Bfd, now: u64) {
@@ -204,38 +214,17 @@ impl Session {
         self.remote_discriminator = Some(bfd.my_discriminator);
         self.remote_diagnostic = Some(bfd.diagnostic);
         self.reply_owed |= bfd.poll;
-        match self.is_held_down(now) {
-            true => self.take_down(),
-            false => self.process_state(bfd.state),
-        }
+        self.give(match self.is_held_down(now) {
+            true => Input::Timer,
+            false => Input::Received(bfd.state),
+        });
     }
 
-    /// Whether a defect stands that keeps the session from coming up: then a
-    /// received state counts no more than TIMER would.
+    /// Whether a defect stands that keeps a coordinated session from coming up:
+    /// then a received state counts no more than TIMER would.
     pub fn is_held_down(&self, now: u64) -> bool {
-        self.has_misconnectivity(now) || self.has_followed_condition(now)
-    }
-
-    /// The state machine of figure 7 for a received state.
-    fn process_state(&mut self, received: State) {
-        use State::{AdminDown, Down, Init, Up};
-        let next = match (self.state, received) {
-            (Down, Down) => Init,
-            (Down, Init) => Up,
-            (Down, Up | AdminDown) => Down,
-            (Init, Down) => Init,
-            (Init, Init | Up) => Up,
-            (Init, AdminDown) => Down,
-            (Up, Init | Up) => Up,
-            (Up, Down | AdminDown) => Down,
-            (AdminDown, _) => AdminDown,
-        };
-        if next != Down {
-            self.taken_down_by_peer = false;
-        } else if self.state != Down {
-            self.taken_down_by_peer = true;
-        }
-        self.state = next;
+        let defect = self.has_misconnectivity(now) || self.has_followed_condition(now);
+        self.settings.mode == Mode::COORDINATED && defect
     }
 
     fn take_fault(&mut self, fault: &Fault, now: u64) {
@@ -253,8 +242,11 @@ impl Session {
         if let Some(free) = self.conditions.iter_mut().find(|c| c.is_none()) {
             *free = Some(condition);
         }
-        if !self.is_locked() && self.follows(&condition) {
-            self.take_down();
+        if self.follows(&condition) {
+            self.give(match fault.kind {
+                FaultKind::AlarmIndication => Input::LinkDown,
+                FaultKind::LockReport => Input::LockReport,
+            });
         }
     }
 
@@ -337,9 +329,16 @@ impl Session {
         Written { octets, length }
     }
 
+    /// What the far end is asked to send: a source asks for nothing.
+    fn required_interval(&self) -> u32 {
+        match self.settings.mode {
+            Mode::SOURCE => 0,
+            _ => self.settings.period,
+        }
+    }
+
     /// Channel header and BFD packet, all flags clear.
     fn write_bfd(&self, octets: &mut [u8; LONGEST_CV], channel: u16, now: u64) {
-        let period = self.settings.period.to_be_bytes();
         let remote = self.remote_discriminator.unwrap_or(0);
         octets[0] = 0x10;
         octets[2..4].copy_from_slice(&channel.to_be_bytes());
@@ -349,8 +348,8 @@ impl Session {
         octets[7] = 24;
         octets[8..12].copy_from_slice(&self.settings.discriminator.to_be_bytes());
         octets[12..16].copy_from_slice(&remote.to_be_bytes());
-        octets[16..20].copy_from_slice(&period);
-        octets[20..24].copy_from_slice(&period);
+        octets[16..20].copy_from_slice(&self.settings.period.to_be_bytes());
+        octets[20..24].copy_from_slice(&self.required_interval().to_be_bytes());
     }
 }
 
@@ -378,6 +377,7 @@ mod tests {
             expected: mep_id,
             follows_link_down: true,
             follows_lock: false,
+            mode: Mode::COORDINATED,
         };
         let mut session = Session::open(settings, 0);
         session.state = State::Up;

@@ -1,5 +1,6 @@
 //! The settings that open a session.
 
+use crate::machine::Mode;
 use crate::mep_id::MepId;
 use crate::message::{Bfd, Message};
 use crate::octets::{be16, be32};
@@ -21,13 +22,20 @@ pub struct Settings {
     pub expected: MepId,
     pub follows_link_down: bool,
     pub follows_lock: bool,
+    pub mode: Mode,
 }
 
 impl Settings {
-    /// Reads the body of an open record; nothing if its length, its marks or
+    /// Reads the body of an open record, which has no place for a mode: in a
+    /// capture every session is coordinated.
+    pub fn read(label: u32, body: &[u8]) -> Option<Settings> {
+        Settings::read_in(Mode::COORDINATED, label, body)
+    }
+
+    /// Reads the body of an open in a mode; nothing if its length, its marks or
     /// a setting is out of range. It has one type and twelve octets for each
     /// MEP-ID, so that a pseudowire never fits.
-    pub fn read(label: u32, body: &[u8]) -> Option<Settings> {
+    pub fn read_in(mode: Mode, label: u32, body: &[u8]) -> Option<Settings> {
         if body.len() != OPEN_BODY || body[34] > 3 {
             return None;
         }
@@ -41,6 +49,7 @@ impl Settings {
             expected: mep_id(22),
             follows_link_down: body[34] & 1 != 0,
             follows_lock: body[34] & 2 != 0,
+            mode,
         };
         settings.in_range().then_some(settings)
     }
@@ -52,6 +61,7 @@ impl Settings {
             && (SHORTEST_PERIOD..=LONGEST_PERIOD).contains(&self.period)
             && self.own.is_well_formed()
             && self.expected.is_well_formed()
+            && self.mode.is_in_range()
     }
 
     /// Whether the message is one of another circuit.

@@ -59,6 +59,7 @@ fn conditions_are_sound(session: &Session, clock: u64) -> bool {
 #[cfg(test)]
 mod tests {
     use super::*;
+    use crate::machine::Mode;
     use crate::mep_id::MepId;
     use crate::message::{FaultKind, Origin};
     use crate::session::Key;
@@ -76,6 +77,7 @@ mod tests {
             expected: mep_id,
             follows_link_down: false,
             follows_lock: false,
+            mode: Mode::COORDINATED,
         };
         Session::open(settings, CLOCK)
     }
@@ -123,11 +125,28 @@ mod tests {
         assert!(!verdict(|s| s.settings.own = MepId::new(3, &[0; 14])));
         assert!(!verdict(|s| s.settings.expected = MepId::new(2, &[0; 12])));
         assert!(!verdict(|s| s.settings.own = MepId::new(2, &[1; 14])));
+        assert!(!verdict(|s| s.settings.mode = Mode(3)));
+        assert!(!verdict(|s| s.settings.mode = Mode(255)));
         assert!(!verdict(|s| s.multiplier = 0));
         assert!(!verdict(|s| s.remote_diagnostic = Some(32)));
         assert!(!verdict(|s| s.remote_discriminator = Some(0)));
         assert!(!verdict(|s| s.state = State::Up));
         assert!(!verdict(|s| s.state = State::Init));
+    }
+
+    #[test]
+    fn the_same_is_asked_in_every_mode() {
+        for mode in [Mode::COORDINATED, Mode::SOURCE, Mode::SINK] {
+            assert!(verdict(|s| s.settings.mode = mode));
+            for state in [State::Init, State::Up] {
+                let come_up = |s: &mut Session, remote| {
+                    (s.settings.mode, s.state) = (mode, state);
+                    s.remote_discriminator = remote;
+                };
+                assert!(verdict(|s| come_up(s, Some(9))));
+                assert!(!verdict(|s| come_up(s, None)));
+            }
+        }
     }
 
     #[test]

@@ -1,6 +1,7 @@
 //! The table of 64 places with its clock, and the calls on it.
 
 use crate::capture::{Kind, Record};
+use crate::machine::Mode;
 use crate::message;
 use crate::refusal::{Refusal, Refused};
 use crate::session::{Report, Session, Written};
@@ -33,6 +34,14 @@ impl Answer {
     pub fn is_accepted(&self) -> bool {
         !matches!(self, Answer::Refused(_))
     }
+}
+
+/// What a call may say that a record of a capture has no place for. A capture
+/// says none of it.
+#[derive(Clone, Copy, Debug, Default, PartialEq, Eq)]
+pub struct Beside {
+    /// The mode of an open.
+    pub mode: Mode,
 }
 
 /// The sessions and the clock.
@@ -72,15 +81,25 @@ impl Table {
         self.sessions().find(|s| s.settings.label == label)
     }
 
-    /// Does the call of one record. Refusal 26 comes before all others.
+    /// The session in a place, to be changed past every call.
+    pub fn place_mut(&mut self, place: usize) -> Option<&mut Session> {
+        self.places.get_mut(place)?.as_mut()
+    }
+
+    /// Does the call of one record of a capture.
     pub fn perform(&mut self, record: &Record) -> Answer {
+        self.perform_with(record, Beside::default())
+    }
+
+    /// Does a call. Refusal 26 comes before all others.
+    pub fn perform_with(&mut self, record: &Record, beside: Beside) -> Answer {
         if !sound::is_sound(&self.places, self.clock, &mut self.scratch) {
             return Answer::Refused(Refusal::Table.into());
         }
         let (time, label) = (record.time, record.label);
         let answer = match record.kind {
             Kind::Tick => self.tick(time),
-            Kind::Open => self.open(time, label, record.body),
+            Kind::Open => self.open(time, label, record.body, beside.mode),
             Kind::Close => self.close(time, label),
             Kind::Lock => self.lock(time, label),
             Kind::Unlock => self.unlock(time, label),
@@ -98,9 +117,15 @@ impl Table {
         Ok(Answer::Accepted)
     }
 
-    fn open(&mut self, reading: u64, label: u32, body: &[u8]) -> Result<Answer, Refused> {
+    fn open(
+        &mut self,
+        reading: u64,
+        label: u32,
+        body: &[u8],
+        mode: Mode,
+    ) -> Result<Answer, Refused> {
         self.judge_reading(reading)?;
-        let settings = Settings::read(label, body).ok_or(Refusal::Setting)?;
+        let settings = Settings::read_in(mode, label, body).ok_or(Refusal::Setting)?;
         let taken = self.sessions().any(|open| {
             open.settings.label == label || open.settings.discriminator == settings.discriminator
         });

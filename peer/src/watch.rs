@@ -26,15 +26,22 @@ pub fn watch(input: impl Read, output: &mut impl Write) -> io::Result<()> {
     }
 }
 
-fn print(output: &mut impl Write, number: u64, answer: &Answer) -> io::Result<()> {
-    write!(output, "{number} {}", answer.number())?;
-    match answer {
-        Answer::Report(report) => print_report(output, report)?,
-        Answer::Written(written) => print_hex(output, written.octets())?,
-        Answer::Refused(refused) => print_place(output, refused)?,
-        Answer::Accepted => {}
-    }
+/// The line for a call: its number and its answer.
+pub fn print(output: &mut impl Write, number: u64, answer: &Answer) -> io::Result<()> {
+    write!(output, "{number} ")?;
+    print_answer(output, answer)?;
     output.write_all(b"\n")
+}
+
+/// An answer's number and what stands behind it.
+pub fn print_answer(output: &mut impl Write, answer: &Answer) -> io::Result<()> {
+    write!(output, "{}", answer.number())?;
+    match answer {
+        Answer::Report(report) => print_report(output, report),
+        Answer::Written(written) => print_hex(output, written.octets()),
+        Answer::Refused(refused) => print_place(output, refused),
+        Answer::Accepted => Ok(()),
+    }
 }
 
 fn print_report(output: &mut impl Write, report: &Report) -> io::Result<()> {

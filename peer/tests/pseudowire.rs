@@ -5,6 +5,7 @@ mod common;
 
 use common::*;
 use peer::capture::{open_body, Kind};
+use peer::machine::Mode;
 use peer::mep_id::{MepId, LSP, PSEUDOWIRE, SECTION};
 use peer::message::{read, Message};
 use peer::refusal::Refusal;
@@ -159,6 +160,7 @@ fn session(own: MepId, expected: MepId) -> Session {
         expected,
         follows_link_down: false,
         follows_lock: false,
+        mode: Mode::COORDINATED,
     };
     assert!(settings.in_range());
     Session::open(settings, 0)

@@ -4,6 +4,7 @@ mod common;
 
 use common::*;
 use peer::capture::{Kind, Record, HEADER};
+use peer::machine::Mode;
 use peer::make;
 use peer::session::Report;
 use peer::table::{self, Table};
@@ -228,6 +229,7 @@ fn ticked(history: &History, upto: u64, time: u64) -> History {
         label: 0,
         kind: Kind::Tick,
         body: Box::new([]),
+        mode: Mode::COORDINATED,
         accepted: true,
     });
     let damage = None;

@@ -13,8 +13,8 @@ mod bodies;
 mod words;
 
 use crate::capture::{append_head, Kind, HEADER};
-pub use words::grouped;
-use words::{number, octets, Mistake, Words};
+use words::octets;
+pub use words::{grouped, number, Mistake, Words};
 
 /// The kinds of record by their names in a text, as they are numbered.
 const NAMES: [&str; 9] = [
@@ -51,12 +51,12 @@ pub fn answers(text: &str) -> String {
     printed
 }
 
-fn without_remark(line: &str) -> &str {
+pub fn without_remark(line: &str) -> &str {
     line.split_once('#').map_or(line, |(before, _)| before)
 }
 
 /// What a line asks for, without answer and remark.
-fn call_of(line: &str) -> &str {
+pub fn call_of(line: &str) -> &str {
     let line = without_remark(line);
     line.split_once("=>").map_or(line, |(call, _)| call)
 }
@@ -81,11 +81,15 @@ pub fn append_line(capture: &mut Vec<u8>, line: &str) -> Result<(), Mistake> {
 }
 
 /// A time or label: 0 where it is not read.
-fn read<T: TryFrom<u64>>(word: &str) -> Result<T, Mistake> {
+pub fn read<T: TryFrom<u64>>(word: &str) -> Result<T, Mistake> {
     number(if word == "-" { "0" } else { word })
 }
 
-fn kind_of(name: &str) -> Result<Kind, Mistake> {
+pub fn name_of(kind: Kind) -> &'static str {
+    NAMES[kind as usize]
+}
+
+pub fn kind_of(name: &str) -> Result<Kind, Mistake> {
     let place = NAMES.iter().position(|known| *known == name);
     place
         .map(|at| Kind::ALL[at])
@@ -94,7 +98,7 @@ fn kind_of(name: &str) -> Result<Kind, Mistake> {
 
 /// A body in words, cut to `cut` octets, and followed by the octets of `pad`
 /// and as many zeros as `zeros` says.
-fn body_of(kind: Kind, words: &mut Words) -> Result<Vec<u8>, Mistake> {
+pub fn body_of(kind: Kind, words: &mut Words) -> Result<Vec<u8>, Mistake> {
     let cut = words.number("cut", usize::MAX)?;
     let pad = octets(words.value("pad").unwrap_or(""))?;
     let zeros: u16 = words.number("zeros", 0)?;

@@ -3,9 +3,10 @@
 use super::history::{Event, Front};
 use super::question::{Question, Thing};
 use crate::capture::Kind;
-use crate::message::{self, Fault, Message};
+use crate::machine::Mode;
+use crate::message::{self, Fault, Message, State};
 use crate::session::{
-    key_of, Key, CONDITION_TIME_PER_SECOND, MISCONNECTIVITY_TIME, OWN_MULTIPLIER,
+    key_of, Key, Session, CONDITION_TIME_PER_SECOND, MISCONNECTIVITY_TIME, OWN_MULTIPLIER,
 };
 use crate::settings::Settings;
 
@@ -77,7 +78,7 @@ impl<'a> Life<'a> {
         if last.kind == Kind::Close {
             return None;
         }
-        let settings = Settings::read(label, &last.body)?;
+        let settings = Settings::read_in(last.mode, label, &last.body)?;
         let since = back.take_while(|event| event.number >= last.number);
         let mut acts: Vec<Act> = since.filter_map(|event| act(&settings, event)).collect();
         acts.reverse();
@@ -96,11 +97,13 @@ impl<'a> Life<'a> {
         Some(self.cause(act, act.event.time + MISCONNECTIVITY_TIME))
     }
 
-    /// What the detection time runs from, if it has run out.
+    /// What the detection time runs from, if it has run out. Nothing times out a
+    /// locked session, nor a source in UP.
     pub fn loss(&self) -> Option<Cause<'a>> {
         let act = self.restarts().max_by_key(|act| act.event.time)?;
         let time = u64::from(self.settings.period) * u64::from(self.multiplier());
-        let lost = !self.locked_before(self.acts.len()) && self.age(act) > time;
+        let timed = !self.locked_before(self.acts.len()) && !self.is_source_in_up();
+        let lost = timed && self.age(act) > time;
         lost.then(|| self.cause(act, act.event.time + time + 1))
     }
 
@@ -159,6 +162,29 @@ impl<'a> Life<'a> {
         };
         let places = (0..self.acts.len()).filter(move |&place| restarts(place));
         places.map(|place| &self.acts[place])
+    }
+
+    /// Whether this is a source that its acts leave in UP.
+    fn is_source_in_up(&self) -> bool {
+        self.settings.mode == Mode::SOURCE && self.state() == State::Up
+    }
+
+    /// The state that the acts leave. TIMER between two of them shows at the
+    /// later one.
+    fn state(&self) -> State {
+        let opened = self.acts[0].event.time;
+        let mut session = Session::open(self.settings, opened);
+        for Act { event, part } in &self.acts {
+            session.timer(event.time);
+            match part {
+                Part::Opening => {}
+                Part::Lock => session.lock(),
+                Part::Unlock => session.unlock(event.time),
+                Part::Crossed(message) | Part::Heard(message) => session.take(message, event.time),
+                Part::Fault(fault) => session.take(&Message::Fault(*fault), event.time),
+            }
+        }
+        session.state
     }
 
     /// The fault messages, the last one first.

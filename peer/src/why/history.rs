@@ -1,6 +1,7 @@
 //! The list of calls that a capture makes, each with what was answered.
 
 use crate::capture::{Kind, Next, Reader};
+use crate::machine::Mode;
 use crate::table::Table;
 use std::io::{self, Read};
 
@@ -13,6 +14,8 @@ pub struct Event {
     pub label: u32,
     pub kind: Kind,
     pub body: Box<[u8]>,
+    /// The mode of an open; in a capture all are coordinated.
+    pub mode: Mode,
     pub accepted: bool,
 }
 
@@ -60,6 +63,7 @@ impl History {
                 label: record.label,
                 kind: record.kind,
                 body: record.body.into(),
+                mode: Mode::COORDINATED,
                 accepted,
             });
         }

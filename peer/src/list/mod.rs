@@ -1,0 +1,141 @@
+//! Lists of calls on a table, for what no capture can say: one call to a line,
+//! in the notation of the captures' texts with a few words more.
+//!
+//! ```text
+//! TIME LABEL open .. mode=NUMBER => ANSWER    # remark
+//! spoil PLACE FIELD VALUE
+//! ```
+//!
+//! A list begins with an empty table. `mode=` is the mode of an open, 0 where
+//! none is named. `spoil` changes a stored session past every call.
+
+mod play;
+mod spoil;
+
+use crate::assemble::{self, call_of, without_remark, Mistake, Words};
+use crate::capture::{Kind, Record};
+use crate::machine::Mode;
+use crate::table::Beside;
+pub use play::{answer, play, Played};
+pub use spoil::Spoil;
+use std::io;
+use std::path::{Path, PathBuf};
+
+/// A line of a list.
+#[derive(Clone, Debug, PartialEq, Eq)]
+pub enum Line {
+    /// A line without words.
+    Blank,
+    Call(Call),
+    Spoil(Spoil),
+}
+
+/// A call, and what is to be answered where the list says so.
+#[derive(Clone, Debug, PartialEq, Eq)]
+pub struct Call {
+    pub time: u64,
+    pub label: u32,
+    pub kind: Kind,
+    pub body: Vec<u8>,
+    pub beside: Beside,
+    pub answer: Option<String>,
+}
+
+impl Call {
+    pub fn record(&self) -> Record<'_> {
+        Record {
+            time: self.time,
+            label: self.label,
+            kind: self.kind,
+            body: &self.body,
+        }
+    }
+}
+
+/// The lists of a folder, by name.
+pub fn of_folder(folder: &Path) -> io::Result<Vec<PathBuf>> {
+    let entries = std::fs::read_dir(folder)?;
+    let mut paths = entries
+        .map(|entry| entry.map(|entry| entry.path()))
+        .collect::<io::Result<Vec<_>>>()?;
+    paths.retain(|path| path.extension().is_some_and(|ending| ending == "calls"));
+    paths.sort();
+    Ok(paths)
+}
+
+/// The lines of a list, or its first mistake with the number of its line.
+pub fn read(text: &str) -> Result<Vec<Line>, Mistake> {
+    let lines = text.lines().enumerate();
+    lines
+        .map(|(number, line)| {
+            line_of(line).map_err(|mistake| format!("line {}: {mistake}", number + 1))
+        })
+        .collect()
+}
+
+pub fn line_of(line: &str) -> Result<Line, Mistake> {
+    let mut words = Words::of(call_of(line));
+    let read = match words.first() {
+        None => Line::Blank,
+        Some("spoil") => Line::Spoil(spoil::read(&mut words)?),
+        Some(time) => Line::Call(call(time, &mut words, answer_of(line))?),
+    };
+    words.end()?;
+    Ok(read)
+}
+
+/// What a list says is answered, with one space between its words.
+fn answer_of(line: &str) -> Option<String> {
+    let (_, answer) = without_remark(line).split_once("=>")?;
+    Some(answer.split_whitespace().collect::<Vec<_>>().join(" "))
+}
+
+fn call(time: &str, words: &mut Words, answer: Option<String>) -> Result<Call, Mistake> {
+    let label = words.first().ok_or("no label")?;
+    let kind = assemble::kind_of(words.first().ok_or("no kind")?)?;
+    let beside = beside(kind, words)?;
+    Ok(Call {
+        time: assemble::read(time)?,
+        label: assemble::read(label)?,
+        kind,
+        body: assemble::body_of(kind, words)?,
+        beside,
+        answer,
+    })
+}
+
+/// The words of a call that a capture has none for.
+fn beside(kind: Kind, words: &mut Words) -> Result<Beside, Mistake> {
+    let mode = match kind {
+        Kind::Open => Mode(words.number("mode", Mode::COORDINATED.0)?),
+        _ => Mode::COORDINATED,
+    };
+    Ok(Beside { mode })
+}
+
+/// The same list line for line, for a host that reads no words: every body in
+/// octets, nothing left out.
+pub fn spell(lines: &[Line]) -> String {
+    lines.iter().map(|line| spelled(line) + "\n").collect()
+}
+
+fn spelled(line: &Line) -> String {
+    match line {
+        Line::Blank => String::new(),
+        Line::Spoil(spoil) => spoil.to_string(),
+        Line::Call(call) => {
+            let Call {
+                time, label, body, ..
+            } = call;
+            let kind = assemble::name_of(call.kind);
+            let mode = match call.kind {
+                Kind::Open => format!(" mode={}", call.beside.mode.0),
+                _ => String::new(),
+            };
+            let hex: String = body.iter().map(|octet| format!("{octet:02x}")).collect();
+            let answer = call.answer.as_ref().map(|answer| format!(" => {answer}"));
+            let answer = answer.unwrap_or_default();
+            format!("{time} {label} {kind}{mode} hex {hex}{answer}")
+        }
+    }
+}
