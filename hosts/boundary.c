@@ -20,14 +20,14 @@ static void need(int holds, const char *what) {
 }
 
 static void check_version(void) {
-    need(KORVEZUL_VERSION == 0x040100, "version of the header");
+    need(KORVEZUL_VERSION == 0x050000, "version of the header");
     need(korvezul_version() == KORVEZUL_VERSION, "version of the library");
     printf("version %d.%d.%d: header and library agree\n", KORVEZUL_VERSION_MAJOR, KORVEZUL_VERSION_MINOR,
            KORVEZUL_VERSION_PATCH);
 }
 
 /* Every field of a record, as the library stored it, read through the header: a session of a
- * pseudowire that is opened, hears a CC, takes an LKR and is crossed, with values that tell the fields
+ * pseudowire that is opened as a sink, hears a CC, takes an LKR and is crossed, with values that tell the fields
  * apart. */
 static struct korvezul_session row[KORVEZUL_RECORDS];
 static struct korvezul_head head;
@@ -51,15 +51,15 @@ static const struct korvezul_settings told = {{{UINT64_C(0x8081828384858687), UI
                                               0x21222324,
                                               0x313233,
                                               1,
-                                              0};
+                                              0,
+                                              KORVEZUL_SINK};
 
 static void check_opened(void) {
     memset(row, 0xa5, sizeof row);
     need(korvezul_empty(row, KORVEZUL_RECORDS, &head) == 0, "empty");
     need(korvezul_open(row, KORVEZUL_RECORDS, &head, told, 0x010203) == 0, "open");
     need(head.clock == 0x010203 && head.occupied == 1, "head");
-    need(memcmp(&row[0].settings, &told, offsetof(struct korvezul_settings, follow_lock) + 1) == 0,
-         "settings");
+    need(memcmp(&row[0].settings, &told, offsetof(struct korvezul_settings, mode) + 1) == 0, "settings");
     need(row[0].timed == 0x010203 && row[0].state == 1 && row[0].crossing == 0, "timed, state, crossing");
     need(row[0].peer.remote == 0 && row[0].peer.multiplier == 3, "peer of a new session");
     need(((const unsigned char *)&row[1])[0] == 0xa5, "a record next to it");
@@ -358,7 +358,7 @@ static uint32_t opening(void) {
     return korvezul_open(row, KORVEZUL_RECORDS, &head, settings, 0);
 }
 
-/* The answers to a mark of 0, 1, 2, 3 and 255. */
+/* The answers to a mark, or a mode, of 0, 1, 2, 3 and 255. */
 static void mark(uint32_t (*call)(void), const char *name, uint8_t *at) {
     static const uint8_t values[] = {0, 1, 2, 3, 255};
     printf("%s of 0, 1, 2, 3, 255:", name);
@@ -385,6 +385,7 @@ static void marks(void) {
     mark(ais, "AIS, Global_ID", &fault.has_global_id);
     mark(opening, "open, follow link-down", &settings.follow_link);
     mark(opening, "open, follow lock", &settings.follow_lock);
+    mark(opening, "open, mode", &settings.mode);
 }
 
 /* The answers to a MEP-ID of each kind, with an AGI length. */
@@ -530,6 +531,8 @@ static void names(void) {
             printf("%" PRIu32 " %s\n", i, korvezul_answer_name(i));
     for (uint32_t i = 0; i <= 4; i++)
         printf("state %" PRIu32 " %s\n", i, korvezul_state_name(i));
+    for (uint32_t i = 0; i <= 3; i++)
+        printf("mode %" PRIu32 " %s\n", i, korvezul_mode_name(i));
 }
 
 static void headline(const char *text) { printf("-- %s\n", text); }

@@ -107,16 +107,25 @@ static struct korvezul_mep_id pseudowire(uint8_t node, uint8_t group) {
     return korvezul_read_mep_id(o, sizeof o).mep;
 }
 
-static void open_session(struct end *e, uint32_t label, uint32_t discriminator, struct korvezul_mep_id own,
-                         struct korvezul_mep_id expected) {
+static void open_in_mode(struct end *e, uint32_t label, uint32_t discriminator, struct korvezul_mep_id own,
+                         struct korvezul_mep_id expected, uint8_t mode) {
+    char call[32] = "open";
     struct korvezul_settings s = {.own = own,
                                   .expected = expected,
                                   .label = label,
                                   .discriminator = discriminator,
                                   .period = 1000000,
                                   .follow_link = 1,
-                                  .follow_lock = 0};
-    said(e, "open", label, korvezul_open(e->row, KORVEZUL_RECORDS, &e->head, s, now));
+                                  .follow_lock = 0,
+                                  .mode = mode};
+    if (mode != KORVEZUL_COORDINATED)
+        snprintf(call, sizeof call, "open as %s", korvezul_mode_name(mode));
+    said(e, call, label, korvezul_open(e->row, KORVEZUL_RECORDS, &e->head, s, now));
+}
+
+static void open_session(struct end *e, uint32_t label, uint32_t discriminator, struct korvezul_mep_id own,
+                         struct korvezul_mep_id expected) {
+    open_in_mode(e, label, discriminator, own, expected, KORVEZUL_COORDINATED);
 }
 
 /* AIS with link down from a node in between, refreshed every second. */
@@ -299,6 +308,33 @@ static void refusals(void) {
     report(&a);
 }
 
+/* One direction, from A to B: the source hears how the sink is, and what it misses itself is nothing. */
+static void independently(void) {
+    headline("an independent session from A to B: A is its source, B its sink");
+    a.label = 104;
+    b.label = 204;
+    open_in_mode(&a, a.label, 21, lsp(10), lsp(20), KORVEZUL_SOURCE);
+    open_in_mode(&b, b.label, 36, lsp(20), lsp(10), KORVEZUL_SINK);
+    headline("both come up, and the source asks for nothing: its required receive interval is 0");
+    both();
+    pass_cc(&a, &b);
+    both_report();
+    headline("the wire is cut: the sink has a loss, the source has none");
+    tick_and_report(&a, 23000001);
+    tick_and_report(&b, 23000001);
+    headline("the sink says so: the source shows a remote defect and stays UP");
+    pass_cc(&b, &a);
+    report(&a);
+    headline("the CV of another circuit comes out at A: the source is blocked and stays UP");
+    pass_cv(&b, 202, &a);
+    report(&a);
+    headline("the wire is whole: the UP of the source brings the sink up");
+    pass_cc(&a, &b);
+    report(&b);
+    headline("a mode that is none");
+    open_in_mode(&a, 105, 22, lsp(10), lsp(20), 3);
+}
+
 int main(void) {
     if (korvezul_version() != KORVEZUL_VERSION) {
         printf("header and library are of two versions\n");
@@ -310,6 +346,7 @@ int main(void) {
     lock_and_unlock();
     over_a_pseudowire();
     refusals();
+    independently();
     headline("messages alone");
     messages();
     return 0;

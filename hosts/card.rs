@@ -16,11 +16,15 @@ impl End {
         let why = if answer == 0 { String::new() } else { format!(", {}", answer_name(answer)) };
         println!("{now:9} {} {call}: {answer}{why}", self.name);
     }
-    fn open(&mut self, now: u64, label: u32, discriminator: u32, own: MepId, expected: MepId) {
-        let settings =
-            Settings { own, expected, label, discriminator, period: 1000000, follow_link: 1, follow_lock: 0 };
+    fn open_in_mode(&mut self, now: u64, label: u32, discriminator: u32, ends: [MepId; 2], mode: u8) {
+        let ([own, expected], period) = (ends, 1000000);
+        let settings = Settings { own, expected, label, discriminator, period, follow_link: 1, follow_lock: 0, mode };
         let answer = self.table.open(settings, now);
-        self.said(now, &format!("open {label}"), answer);
+        let as_what = if mode == COORDINATED { String::new() } else { format!(" as {}", mode_name(mode)) };
+        self.said(now, &format!("open{as_what} {label}"), answer);
+    }
+    fn open(&mut self, now: u64, label: u32, discriminator: u32, own: MepId, expected: MepId) {
+        self.open_in_mode(now, label, discriminator, [own, expected], COORDINATED);
     }
     fn tick(&mut self, now: u64) {
         let answer = self.table.tick(now);
@@ -131,6 +135,7 @@ fn check_layout() {
         period: 0x313233,
         follow_link: 1,
         follow_lock: 0,
+        mode: SINK,
     };
     let heard = Packet { my: 0x61626364, diagnostic: 9, state: 1, multiplier: 5, poll: 1, ..Packet::default() };
     let crossed = Packet { your: 1, ..heard };
@@ -427,6 +432,33 @@ fn refusals(a: &mut End) {
     a.report(20000000);
 }
 
+/// One direction, from A to B: the source hears how the sink is, and what it misses itself is nothing.
+fn independently(a: &mut End, b: &mut End) {
+    let (now, late) = (20000000, 23000001);
+    println!("-- an independent session from A to B: A is its source, B its sink");
+    (a.label, b.label) = (104, 204);
+    a.open_in_mode(now, 104, 21, [lsp(10), lsp(20)], SOURCE);
+    b.open_in_mode(now, 204, 36, [lsp(20), lsp(10)], SINK);
+    println!("-- both come up, and the source asks for nothing: its required receive interval is 0");
+    both(now, a, b);
+    pass_cc(now, a, b);
+    both_report(now, a, b);
+    println!("-- the wire is cut: the sink has a loss, the source has none");
+    tick_and_report(late, a);
+    tick_and_report(late, b);
+    println!("-- the sink says so: the source shows a remote defect and stays UP");
+    pass_cc(late, b, a);
+    a.report(late);
+    println!("-- the CV of another circuit comes out at A: the source is blocked and stays UP");
+    pass_cv(late, b, 202, a);
+    a.report(late);
+    println!("-- the wire is whole: the UP of the source brings the sink up");
+    pass_cc(late, a, b);
+    b.report(late);
+    println!("-- a mode that is none");
+    a.open_in_mode(late, 105, 22, [lsp(10), lsp(20)], 3);
+}
+
 fn main() {
     assert_eq!(unsafe { korvezul_version() }, VERSION);
     check_layout();
@@ -442,6 +474,7 @@ fn main() {
     lock_and_unlock(&mut a, &mut b);
     over_a_pseudowire(&mut a, &mut b);
     refusals(&mut a);
+    independently(&mut a, &mut b);
     println!("-- messages alone");
     messages();
 }

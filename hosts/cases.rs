@@ -54,6 +54,14 @@ impl<'a> Words<'a> {
         }
         self.number()
     }
+    /// `mode=` and a mode, where that stands next; else a session is coordinated.
+    fn mode(&mut self) -> Result<u8, String> {
+        let Some(mode) = self.0.as_slice().first().and_then(|word| word.strip_prefix("mode=")) else {
+            return Ok(COORDINATED);
+        };
+        self.0.next();
+        number_of(mode)
+    }
     /// All that is left, as octets in hex; `00*5` is five noughts.
     fn octets(&mut self) -> Result<Vec<u8>, String> {
         let mut octets = Vec::new();
@@ -73,13 +81,13 @@ impl<'a> Words<'a> {
     }
 }
 
-/// A number, 0x for hex, or a name of a state, a type, flags or a thing that is asked about.
+/// A number, 0x for hex, or a name of a state, a type, flags, a mode or a thing that is asked about.
 fn number_of<N: TryFrom<u64>>(word: &str) -> Result<N, String> {
     let digits = word.replace('_', "");
     let number = match word {
-        "admin" => Ok(0),
-        "down" | "ais" | "f" | "r" | "crossing" => Ok(1),
-        "init" | "lkr" | "p" | "l" | "loss" => Ok(2),
+        "admin" | "coordinated" => Ok(0),
+        "down" | "ais" | "f" | "r" | "source" | "crossing" => Ok(1),
+        "init" | "lkr" | "p" | "l" | "sink" | "loss" => Ok(2),
         "up" | "pf" | "lr" | "held-back" => Ok(3),
         "condition" => Ok(4),
         _ => digits.strip_prefix("0x").map_or_else(|| digits.parse(), |hex| u64::from_str_radix(hex, 16)),
@@ -159,12 +167,13 @@ fn settings(label: u32, discriminator: u32, period: u32) -> Settings {
     let agi_from = |first: u64| [0, 1, 2, 3].map(|i| 0x0001_0203_0405_0607 + 0x0101_0101_0101_0101 * (first + 8 * i));
     let own = MepId { group: 5, agi: agi_from(0x40), ..mep(1, 65_000, 0x0a00_0001, 0x0007_0002) };
     let expected = MepId { group: 6, agi: agi_from(0x60), ..mep(1, 65_000, 0x0a00_0002, 0x0009_0004) };
-    Settings { own, expected, label, discriminator, period, follow_link: 0, follow_lock: 0 }
+    Settings { own, expected, label, discriminator, period, ..Settings::default() }
 }
 
-/// The words of a line behind which settings stand: marks, what is added to the MEP-ID types 1 and 1, and the two
-/// AGI lengths.
+/// The words of a line behind which settings stand: the mode, marks, what is added to the MEP-ID types 1 and 1, and
+/// the two AGI lengths.
 fn settings_by(mut g: Settings, w: &mut Words) -> Result<Settings, String> {
+    g.mode = w.mode()?;
     (g.follow_link, g.follow_lock) = (w.number_or_0()?, w.number_or_0()?);
     g.own.kind += w.number_or_0::<u16>()?;
     g.expected.kind += w.number_or_0::<u16>()?;
@@ -330,6 +339,7 @@ fn spoil_line(t: &mut Table, w: &mut Words) -> Shown {
         "period" => record.settings.period = number_of(value)?,
         "link" => record.settings.follow_link = number_of(value)?,
         "lock" => record.settings.follow_lock = number_of(value)?,
+        "mode" => record.settings.mode = number_of(value)?,
         "own" => record.settings.own.kind = number_of(value)?,
         "expected" => record.settings.expected.kind = number_of(value)?,
         "own-agi" => record.settings.own.size = number_of(value)?,
@@ -469,6 +479,7 @@ fn with_settings(t: &Table, w: &mut Words) -> Result<Table, String> {
     let mut t = t.clone();
     let g = &mut t.row[0].settings;
     (g.label, g.discriminator, g.period) = (w.number()?, w.number()?, w.number()?);
+    g.mode = w.mode()?;
     (g.own.kind, g.expected.kind) = (w.number()?, w.number()?);
     (g.follow_link, g.follow_lock) = (w.number()?, w.number()?);
     (g.own.size, g.expected.size) = (w.number_or_0()?, w.number_or_0()?);

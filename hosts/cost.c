@@ -40,7 +40,8 @@ static struct korvezul_mep_id mep_of(uint32_t node, uint32_t local) {
 }
 
 static struct korvezul_settings settings_of(unsigned i) {
-    struct korvezul_settings s = {mep_of(10, i), mep_of(20, i), label_of(i), label_of(i), 10000000, 1, 1};
+    struct korvezul_settings s = {mep_of(10, i), mep_of(20, i), label_of(i), label_of(i),
+                                  10000000,      1,             1,           KORVEZUL_COORDINATED};
     return s;
 }
 

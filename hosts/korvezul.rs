@@ -4,8 +4,12 @@
 use std::mem::{align_of, offset_of, size_of};
 
 pub const RECORDS: usize = 64;
-/// The version of the header that these declarations follow, 4.1.0.
-pub const VERSION: u32 = 0x040100;
+/// The version of the header that these declarations follow, 5.0.0.
+pub const VERSION: u32 = 0x050000;
+/// The modes of a session.
+pub const COORDINATED: u8 = 0;
+pub const SOURCE: u8 = 1;
+pub const SINK: u8 = 2;
 /// The longest plain CV.
 pub const CV_OCTETS: usize = 78;
 
@@ -33,6 +37,7 @@ pub struct Settings {
     pub period: u32,
     pub follow_link: u8,
     pub follow_lock: u8,
+    pub mode: u8,
 }
 
 #[repr(C)]
@@ -181,6 +186,7 @@ const _: () = {
     assert!(size_of::<Session>() == 272 && align_of::<Session>() == 8 && offset_of!(Session, settings) == 144);
     assert!(offset_of!(Session, peer) == 256 && offset_of!(Session, state) == 264 && size_of::<Settings>() == 112);
     assert!(offset_of!(Settings, expected) == 48 && offset_of!(Settings, label) == 96 && size_of::<MepId>() == 48);
+    assert!(offset_of!(Settings, follow_link) == 108 && offset_of!(Settings, mode) == 110);
     assert!(offset_of!(MepId, global) == 32 && offset_of!(MepId, kind) == 44 && offset_of!(MepId, size) == 47);
     assert!(size_of::<Condition>() == 32 && offset_of!(Condition, refresh) == 24 && size_of::<Head>() == 16);
     assert!(size_of::<ReportAnswer>() == 12 && size_of::<Packet>() == 28 && size_of::<Fault>() == 20);
@@ -346,6 +352,15 @@ pub fn answer_name(answer: u32) -> &'static str {
         14 => "session locked",
         15 => "does not stand",
         26 => "not a table",
+        _ => "unknown",
+    }
+}
+
+pub fn mode_name(mode: u8) -> &'static str {
+    match mode {
+        COORDINATED => "coordinated",
+        SOURCE => "source",
+        SINK => "sink",
         _ => "unknown",
     }
 }

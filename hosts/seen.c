@@ -31,7 +31,7 @@ static struct card by_period, by_looks, tried;
 static void begin(struct card *c, const char *name, int behind_messages, uint64_t timer, uint32_t period) {
     const struct korvezul_mep_id own = {{0, 0, 0, 0}, 7, 10, 1, 1, 0, 0},
                                  expected = {{0, 0, 0, 0}, 7, 20, 1, 1, 0, 0};
-    struct korvezul_settings s = {own, expected, LABEL, DISCRIMINATOR, period, 0, 0};
+    struct korvezul_settings s = {own, expected, LABEL, DISCRIMINATOR, period, 0, 0, KORVEZUL_COORDINATED};
     c->name = name;
     c->behind_messages = behind_messages;
     c->timer = timer;

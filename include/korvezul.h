@@ -29,10 +29,11 @@
 extern "C" {
 #endif
 
-/* The version of this header: 0x040100 is 4.1.0. korvezul_version() is the archive's; another major
- * number is another layout or another meaning, and the two must agree in it. */
-#define KORVEZUL_VERSION_MAJOR 4
-#define KORVEZUL_VERSION_MINOR 1
+/* The version of this header: 0x050000 is 5.0.0. korvezul_version() is the archive's; another major
+ * number is another layout or another meaning, and the two must agree in it. 5: the settings have a mode,
+ * in an octet that was nobody's before. */
+#define KORVEZUL_VERSION_MAJOR 5
+#define KORVEZUL_VERSION_MINOR 0
 #define KORVEZUL_VERSION_PATCH 0
 #define KORVEZUL_VERSION \
     (KORVEZUL_VERSION_MAJOR * 0x10000 + KORVEZUL_VERSION_MINOR * 0x100 + KORVEZUL_VERSION_PATCH)
@@ -77,6 +78,15 @@ enum korvezul_kind {
     KORVEZUL_PSEUDOWIRE = 2
 };
 
+/* How a session moves: by Figure 7, 8 or 9 of RFC 6428. A coordinated session watches both directions at
+ * once. An independent one is for one direction: a source where its messages are sent, and a sink where they
+ * are received and missed. */
+enum korvezul_mode {
+    KORVEZUL_COORDINATED = 0,
+    KORVEZUL_SOURCE = 1,
+    KORVEZUL_SINK = 2
+};
+
 /* A maintenance end point. kind 0, Section: Global_ID, Node, Interface. kind 1, LSP: Global_ID,
  * Node, and in `local` the Tunnel number (high 16 bits) and the LSP number (low 16 bits). kind 2,
  * pseudowire: Global_ID, Node, AC_ID, and an attachment group identifier of a type and of 0 to 32
@@ -99,8 +109,9 @@ struct korvezul_mep_id {
 
 /* What a session is opened with: the own and the expected MEP-ID, each of kind 0, 1 or 2, which may
  * differ in kind too, with an `agi_length` up to 32 where the kind is 2; label 16 to 1,048,575; a local
- * discriminator, not 0; the period in microseconds, 1,000 to 10,000,000; and the marks "follow
- * link-down" and "follow lock", 0 or 1. */
+ * discriminator, not 0; the period in microseconds, 1,000 to 10,000,000; the marks "follow link-down" and
+ * "follow lock", 0 or 1; and the mode, a korvezul_mode, where 0 is a coordinated session. Any other number
+ * is out of range: 10 on open, and 26 in a record. */
 struct korvezul_settings {
     struct korvezul_mep_id own;
     struct korvezul_mep_id expected;
@@ -109,6 +120,7 @@ struct korvezul_settings {
     uint32_t period;
     uint8_t follow_link;
     uint8_t follow_lock;
+    uint8_t mode;
 };
 
 /* The record of a session. It is the host's memory and the library's content: read a session with
@@ -155,7 +167,8 @@ struct korvezul_head {
 
 /* A report: 0 and seven numbers, or a refusal and seven noughts. `state` is a korvezul_state,
  * `conditions` a count up to 4, the others are 0 or 1. Traffic is to be blocked while `blocked` is
- * 1. A held-back alarm is loss 1 and alarm 0. */
+ * 1. A held-back alarm is loss 1 and alarm 0. A source in UP misses nothing: loss and alarm are 0 however
+ * long it hears nothing, and `rdi` is what it was told last. Its crossing and its conditions show as ever. */
 struct korvezul_report_answer {
     uint32_t answer;
     uint8_t state;
@@ -278,7 +291,7 @@ uint32_t korvezul_version(void);
 /* Makes a row an empty table at clock 0. The records are not looked at and may hold anything. */
 uint32_t korvezul_empty(const struct korvezul_session *row, size_t records, struct korvezul_head *head);
 
-/* Opens a session in the lowest free place. 26, 1, 10, 11, 12. */
+/* Opens a session in the lowest free place, in the mode of its settings. 26, 1, 10, 11, 12. */
 uint32_t korvezul_open(struct korvezul_session *row, size_t records, struct korvezul_head *head,
                        struct korvezul_settings settings, uint64_t reading);
 
@@ -313,8 +326,9 @@ struct korvezul_cause korvezul_why(struct korvezul_session *row, size_t records,
 
 /* Writes the CC (28 octets) or the CV (44; 46 and the AGI's octets, up to 78, where the own MEP-ID is a
  * pseudowire's) that the session of a label is to send, at the clock, to the front of a buffer of `size`
- * octets; what lies behind is not touched. Where the host does not keep how long its CVs are,
- * korvezul_read_cv of the buffer has it in `place`. 26, 2, 13. */
+ * octets; what lies behind is not touched. A source writes a required receive interval of 0, every other
+ * session its period. Where the host does not keep how long its CVs are, korvezul_read_cv of the buffer has
+ * it in `place`. 26, 2, 13. */
 uint32_t korvezul_write_cc(struct korvezul_session *row, size_t records, struct korvezul_head *head,
                            uint32_t label, uint8_t *buffer, size_t size);
 uint32_t korvezul_write_cv(struct korvezul_session *row, size_t records, struct korvezul_head *head,
@@ -371,6 +385,7 @@ KORVEZUL_PLACE(settings, discriminator, 100);
 KORVEZUL_PLACE(settings, period, 104);
 KORVEZUL_PLACE(settings, follow_link, 108);
 KORVEZUL_PLACE(settings, follow_lock, 109);
+KORVEZUL_PLACE(settings, mode, 110);
 
 KORVEZUL_SIZE(key, 16);
 KORVEZUL_ALIGNED(key, 4);

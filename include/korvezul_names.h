@@ -1,6 +1,6 @@
 /*
- * Names for the answers and states of korvezul.h, for logs and screens: the words of its comments,
- * short. A number that is no answer, or no state, is "unknown".
+ * Names for the answers, states and modes of korvezul.h, for logs and screens: the words of its comments,
+ * short. A number that is no answer, no state or no mode is "unknown".
  */
 #ifndef KORVEZUL_NAMES_H
 #define KORVEZUL_NAMES_H
@@ -36,6 +36,15 @@ static inline const char *korvezul_state_name(uint32_t state) {
     case KORVEZUL_DOWN: return "DOWN";
     case KORVEZUL_INIT: return "INIT";
     case KORVEZUL_UP: return "UP";
+    default: return "unknown";
+    }
+}
+
+static inline const char *korvezul_mode_name(uint32_t mode) {
+    switch (mode) {
+    case KORVEZUL_COORDINATED: return "coordinated";
+    case KORVEZUL_SOURCE: return "source";
+    case KORVEZUL_SINK: return "sink";
     default: return "unknown";
     }
 }
