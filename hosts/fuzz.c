@@ -2,8 +2,8 @@
  * The library under random input. Three commands:
  *
  *   fuzz play < CAPTURE          plays a capture by calls, and prints what `watch` would
- *   fuzz calls SEED N CAPTURE    makes N random calls on a table of its own, writes them as a
- *                                capture, and prints what they answered
+ *   fuzz calls SEED N LIST       makes N random calls on a table of its own, in every mode, writes
+ *                                them as a list, and prints what they answered
  *   fuzz random SEED SECONDS     any bytes as row, set, clock, message and buffer; what must hold
  *                                of every call is looked at after each
  *
@@ -232,7 +232,9 @@ static uint32_t some_label(void) {
 
 static uint16_t some_kind(void) { return (uint16_t)(once_in(30) ? below(5) : below(3)); }
 
-/* A capture has one kind for both MEP-IDs. */
+static uint8_t some_mode(void) { return (uint8_t)(once_in(30) ? any() : below(3)); }
+
+/* A list, like a capture, has one kind for both MEP-IDs. */
 static struct korvezul_settings some_settings(uint32_t label, int as_watch) {
     struct korvezul_settings s;
     uint16_t kind = (uint16_t)(once_in(30) ? below(4) : below(2));
@@ -244,6 +246,7 @@ static struct korvezul_settings some_settings(uint32_t label, int as_watch) {
     s.expected = some_mep(as_watch ? kind : some_kind());
     s.follow_link = (uint8_t)below(2);
     s.follow_lock = (uint8_t)below(2);
+    s.mode = some_mode();
     return s;
 }
 
@@ -354,39 +357,45 @@ static struct call some_call(const struct korvezul_head *head, const struct lend
     return c;
 }
 
-static void record(FILE *to, const struct call *c) {
-    uint8_t o[16 + 128], *body = o + 16, *end = body;
-    if (c->kind == OPEN) {
-        end =
-            put(put(put(body, 4, c->settings.discriminator), 4, c->settings.period), 2, c->settings.own.kind);
-        end =
-            put(put(put(end, 4, c->settings.own.global), 4, c->settings.own.node), 4, c->settings.own.local);
-        end = put(put(put(end, 4, c->settings.expected.global), 4, c->settings.expected.node), 4,
-                  c->settings.expected.local);
-        end = put(end, 1, c->settings.follow_link + 2u * c->settings.follow_lock);
-    }
-    if (c->kind == RECEIVE) {
-        memcpy(body, c->octets, c->size);
-        end = body + c->size;
-    }
-    put(put(put(put(o, 8, c->reading), 4, c->label), 2, c->kind), 2, (uint64_t)(end - body));
-    fwrite(o, 1, (size_t)(end - o), to);
+/* The octets of an open in a capture. */
+static size_t open_body(uint8_t *o, const struct korvezul_settings *s) {
+    const struct korvezul_mep_id *own = &s->own, *expected = &s->expected;
+    uint8_t *end = put(put(put(o, 4, s->discriminator), 4, s->period), 2, own->kind);
+    end = put(put(put(end, 4, own->global), 4, own->node), 4, own->local);
+    end = put(put(put(end, 4, expected->global), 4, expected->node), 4, expected->local);
+    end = put(end, 1, s->follow_link + 2u * s->follow_lock);
+    return (size_t)(end - o);
+}
+
+/* A call as a line of a list: a capture has no place for a mode. */
+static void listed(FILE *to, const struct call *c) {
+    static const char *const kinds[] = {"tick",    "open",   "close",    "lock",    "unlock",
+                                        "receive", "report", "write-cc", "write-cv"};
+    uint8_t opening[35];
+    const uint8_t *body = c->kind == OPEN ? opening : c->octets;
+    size_t size = c->kind == OPEN ? open_body(opening, &c->settings) : c->kind == RECEIVE ? c->size : 0;
+    fprintf(to, "%" PRIu64 " %" PRIu32 " %s", c->reading, c->label, kinds[c->kind]);
+    if (c->kind == OPEN)
+        fprintf(to, " mode=%d", c->settings.mode);
+    fprintf(to, " hex ");
+    for (size_t i = 0; i < size; i++)
+        fprintf(to, "%02x", body[i]);
+    fprintf(to, "\n");
 }
 
 static int calls(uint64_t count, const char *path) {
     struct lender rows = a_lender(), heads = a_lender(), lent = a_lender();
     struct korvezul_session *row = lend(&rows, ROW, 1);
     struct korvezul_head *head = lend(&heads, sizeof *head, 1);
-    FILE *to = fopen(path, "wb");
+    FILE *to = fopen(path, "w");
     if (to == NULL)
         return 1;
-    fwrite("TPO\0\1\0\0\0", 1, 8, to);
     fill(row, ROW);
     korvezul_empty(row, KORVEZUL_RECORDS, head);
     for (uint64_t i = 1; i <= count; i++) {
         struct call c = some_call(head, &lent, 1);
         struct said s;
-        record(to, &c);
+        listed(to, &c);
         if (c.kind == OPEN && c.settings.own.kind == KORVEZUL_PSEUDOWIRE)
             c.settings.discriminator = 0; /* as `settings_of` reads it */
         s = make(row, KORVEZUL_RECORDS, head, &c);
@@ -426,14 +435,36 @@ struct table {
     uint8_t octets[128];
 };
 
+/* The settings of the open session of a label. */
+static const struct korvezul_settings *settings_at(const struct table *t, uint32_t label) {
+    for (size_t i = 0; i < KORVEZUL_RECORDS; i++)
+        if ((t->head.occupied >> i & 1) != 0 && t->row[i].settings.label == label)
+            return &t->row[i].settings;
+    return NULL;
+}
+
 /* The octets that an accepted call wrote. */
 static size_t written(const struct table *t, const struct call *c) {
-    if (c->kind == WRITE_CC)
-        return KORVEZUL_CC_OCTETS;
-    for (size_t i = 0; c->kind == WRITE_CV && i < KORVEZUL_RECORDS; i++)
-        if ((t->head.occupied >> i & 1) != 0 && t->row[i].settings.label == c->label)
-            return cv_size(&t->row[i].settings.own);
-    return 0;
+    const struct korvezul_settings *s = settings_at(t, c->label);
+    if (s == NULL || (c->kind != WRITE_CC && c->kind != WRITE_CV))
+        return 0;
+    return c->kind == WRITE_CC ? KORVEZUL_CC_OCTETS : cv_size(&s->own);
+}
+
+/* What hangs on the mode of the session that an accepted call speaks of: a source in UP misses nothing,
+ * and a source asks for nothing. */
+static void look_at_mode(const struct table *before, const struct table *after, const struct call *c,
+                         const struct said *s) {
+    const struct korvezul_settings *g = settings_at(before, c->label);
+    int source = g != NULL && g->mode == KORVEZUL_SOURCE;
+    if (g == NULL || s->answer != 0)
+        return;
+    if (c->kind == REPORT && source && s->report.state == KORVEZUL_UP)
+        must(s->report.loss == 0 && s->report.alarm == 0, "a source in UP misses something");
+    if (c->kind == WRITE_CC || c->kind == WRITE_CV) {
+        must(number(after->octets + 16, 4) == g->period, "another transmit interval than the period");
+        must(number(after->octets + 20, 4) == (source ? 0 : g->period), "another required interval");
+    }
 }
 
 static void look(const struct table *before, const struct table *after, size_t n, const struct call *c,
@@ -466,6 +497,7 @@ static void look(const struct table *before, const struct table *after, size_t n
         must(c->kind == WRITE_CC ? cc.answer == 0 && cc.place == kept : cv.answer == 0 && cv.place == kept,
              "what is written is not read");
     }
+    look_at_mode(before, after, c, s);
 }
 
 static int is_nought(const void *at, size_t n) {
@@ -699,6 +731,6 @@ int main(int argc, char **argv) {
         return calls(strtoull(argv[3], NULL, 10), argv[4]);
     if (argc == 4 && strcmp(argv[1], "random") == 0)
         return at_random(strtod(argv[3], NULL));
-    fprintf(stderr, "fuzz play | fuzz calls SEED N CAPTURE | fuzz random SEED SECONDS\n");
+    fprintf(stderr, "fuzz play | fuzz calls SEED N LIST | fuzz random SEED SECONDS\n");
     return 2;
 }
