@@ -250,14 +250,20 @@ static struct korvezul_settings some_settings(uint32_t label, int as_watch) {
     return s;
 }
 
+/* Time goes by slowly, or now and then quickly, so that crossings and conditions come to an end. */
 static uint64_t some_reading(uint64_t clock) {
     static const uint64_t steps[] = {0,       1,       2,       2999,    3000,     3001,    3000000,
                                      3000001, 3499999, 3500000, 7000000, 69999999, 70000000};
+    static int quickly;
+    if (once_in(1000))
+        quickly = !quickly;
     if (once_in(60))
         return any();
     if (once_in(60))
         return clock - below(3);
-    return clock + (once_in(100) ? steps[below(sizeof steps / sizeof *steps)] : below(2000));
+    if (once_in(100))
+        return clock + steps[below(sizeof steps / sizeof *steps)];
+    return clock + below(quickly ? 200000 : 2000);
 }
 
 static struct korvezul_packet some_packet(void) {
@@ -298,16 +304,17 @@ static struct korvezul_fault some_fault(void) {
     return f;
 }
 
-/* A plain message for a label: half of them, where there is a choice, as its peer would send it. */
+/* A plain message for a label: most of them, where there is a choice, as its peer would send it. */
 static size_t plain_message(uint8_t *o, uint32_t label) {
     struct korvezul_packet p = some_packet();
     struct korvezul_mep_id id = some_mep((uint16_t)below(3));
-    if (once_in(2))
+    if (!once_in(8))
         p.your = label;
-    switch (below(3)) {
-    case 0: return korvezul_write_cc_message(o, 128, p) == 0 ? 28 : 0;
-    case 1: return korvezul_write_cv_message(o, 128, p, id) == 0 ? cv_size(&id) : 0;
-    default: return korvezul_write_fault_message(o, 128, some_fault()) == 0 ? 9 + o[8] : 0;
+    switch (below(6)) {
+    case 0: return korvezul_write_cv_message(o, 128, p, id) == 0 ? cv_size(&id) : 0;
+    case 1:
+    case 2: return korvezul_write_fault_message(o, 128, some_fault()) == 0 ? 9 + o[8] : 0;
+    default: return korvezul_write_cc_message(o, 128, p) == 0 ? 28 : 0;
     }
 }
 
@@ -331,8 +338,8 @@ static size_t some_message(uint8_t *o, uint32_t label) {
 /* A call on a table, its octets lent; a buffer of any size, or of one that `watch` lends. Now and
  * then nothing is closed for a while, so that the table fills up. */
 static struct call some_call(const struct korvezul_head *head, const struct lender *lent, int as_watch) {
-    static const enum kind often[] = {TICK,    OPEN,    OPEN,    CLOSE,  LOCK,   UNLOCK,   RECEIVE, RECEIVE,
-                                      RECEIVE, RECEIVE, RECEIVE, REPORT, REPORT, WRITE_CC, WRITE_CV};
+    static const enum kind often[] = {TICK,    OPEN,    OPEN,    CLOSE,   LOCK,   UNLOCK, UNLOCK,   RECEIVE,
+                                      RECEIVE, RECEIVE, RECEIVE, RECEIVE, REPORT, REPORT, WRITE_CC, WRITE_CV};
     static int filling;
     uint8_t m[128];
     struct call c;
