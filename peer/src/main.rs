@@ -13,6 +13,7 @@ const USAGE: &str = "usage: peer watch [--own-table] < capture
        peer lists FOLDER
        peer spell LIST > list
        peer answer < list
+       peer cells LIST...
        peer check N [--program PATH]
        peer check-why N [--program PATH]
        peer cover N
@@ -65,6 +66,14 @@ fn run(words: &[&str]) -> io::Result<ExitCode> {
         ["answer"] => {
             let input = BufReader::with_capacity(BUFFER, io::stdin().lock());
             print(|output| list::answer(input, output))
+        }
+        ["cells", first, others @ ..] => {
+            let mut cells = list::Cells::default();
+            for path in [first].into_iter().chain(others) {
+                let lines = list_at(Path::new(path))?;
+                cells.add(&lines).map_err(io::Error::other)?;
+            }
+            print(|output| cells.print(output))
         }
         ["check", count] => compare(number(count)?, DEFAULT_PROGRAM),
         ["check", count, "--program", path] => compare(number(count)?, path),

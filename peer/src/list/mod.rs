@@ -9,6 +9,7 @@
 //! A list begins with an empty table. `mode=` is the mode of an open, 0 where
 //! none is named. `spoil` changes a stored session past every call.
 
+mod cells;
 mod play;
 mod spoil;
 
@@ -16,6 +17,7 @@ use crate::assemble::{self, call_of, without_remark, Mistake, Words};
 use crate::capture::{Kind, Record};
 use crate::machine::Mode;
 use crate::table::Beside;
+pub use cells::Cells;
 pub use play::{answer, play, Played};
 pub use spoil::Spoil;
 use std::io;
