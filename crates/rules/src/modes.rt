@@ -58,7 +58,7 @@ fn sink_from_down(input: Input) -> State
     match input {
         Input::GotDown => State::Init,
         Input::GotInit => State::Up,
-        Input::GotUp => State::Up,
+        Input::GotUp => State::Up, // with no INIT between
         Input::GotAdminDown => State::Down,
         Input::Timer => State::Down,
         Input::LinkDown => State::Down,
