@@ -5,6 +5,7 @@ pub mod Ages
 pub mod Cells
 pub mod States
 pub mod Figures
+pub mod Exposed
 pub mod Codes
 pub mod SameKeys
 pub mod Fitting

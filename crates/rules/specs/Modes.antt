@@ -1,7 +1,7 @@
 -- What the mode of a session decides: coordinated, or of two independent sessions the source or the sink (RFC 6428, 3.7.5, Figures 8 and 9).
 -- Assumes nothing.
 use Prim.Native.Nat.{ℕ}
-use mathlib.Core.Bool.{Bool, true, false, cond}
+use mathlib.Core.Bool.{Bool, true, false, cond, not, _&&_}
 use lib.Dec.{eqb, ltb}
 use Rattle.rules.specs.declared.Mode.{Mode}
 use Rattle.rules.specs.declared.Mode.the-variants.{Coordinated, Source, Sink}
@@ -10,7 +10,7 @@ use Rattle.rules.specs.declared.State.the-variants.{AdminDown, Down, Nei
 use Rattle.rules.specs.declared.Input.{Input}
 use Rattle.rules.specs.declared.Input.the-variants.{GotAdminDown, GotDown, GotInit, GotUp, Timer, LinkDown, LockReport, Crossed}
 use Rattle.rules.specs.declared.Settings.{Settings}
-use Rattle.rules.specs.States.{fromDown, fromNeighborDown, fromInit, fromUp, moved}
+use Rattle.rules.specs.States.{moved, isLocked, stateOf}
 
 -- the mode's number in the settings: 0 coordinated, 1 source, 2 sink; any other does not fit
 abbrev pub modeFits : ℕ → Bool
@@ -22,59 +22,45 @@ modeOf mode = cond (eqb mode 0) Coordinated (cond (eqb mode 1) Source Sink)
 abbrev pub modeIn : Settings → Mode
 modeIn g = modeOf (g .mode)
 
--- a source in UP: a received ADMIN DOWN takes it down, and no other input moves it
-abbrev pub sourceFromUp : Input → State
-sourceFromUp GotDown = Up
-sourceFromUp GotInit = Up
-sourceFromUp GotUp = Up
-sourceFromUp GotAdminDown = NeighborDown
-sourceFromUp Timer = Up
-sourceFromUp LinkDown = Up
-sourceFromUp LockReport = Up
-sourceFromUp Crossed = Up
+-- a source in UP takes every input but a received ADMIN DOWN for a received UP, which leaves it there
+abbrev pub sourceUpInput : Input → Input
+sourceUpInput GotAdminDown = GotAdminDown
+sourceUpInput GotDown = GotUp
+sourceUpInput GotInit = GotUp
+sourceUpInput GotUp = GotUp
+sourceUpInput Timer = GotUp
+sourceUpInput LinkDown = GotUp
+sourceUpInput LockReport = GotUp
+sourceUpInput Crossed = GotUp
 
--- a source elsewhere moves as a coordinated session does
-abbrev pub sourceMoved : State → Input → State
-sourceMoved AdminDown input = AdminDown
-sourceMoved Down input = fromDown input
-sourceMoved NeighborDown input = fromNeighborDown input
-sourceMoved Init input = fromInit input
-sourceMoved Up input = sourceFromUp input
+-- elsewhere it takes each for what it is
+abbrev pub sourceInput : State → Input → Input
+sourceInput AdminDown input = input
+sourceInput Down input = input
+sourceInput NeighborDown input = input
+sourceInput Init input = input
+sourceInput Up input = sourceUpInput input
 
--- a sink in DOWN: a received UP takes it to UP, as a received INIT does
-abbrev pub sinkFromDown : Input → State
-sinkFromDown GotDown = Init
-sinkFromDown GotInit = Up
-sinkFromDown GotUp = Up
-sinkFromDown GotAdminDown = Down
-sinkFromDown Timer = Down
-sinkFromDown LinkDown = Down
-sinkFromDown LockReport = Down
-sinkFromDown Crossed = Down
+-- a sink takes a received UP for a received INIT: either leads it from DOWN to UP
+abbrev pub sinkInput : Input → Input
+sinkInput GotAdminDown = GotAdminDown
+sinkInput GotDown = GotDown
+sinkInput GotInit = GotInit
+sinkInput GotUp = GotInit
+sinkInput Timer = Timer
+sinkInput LinkDown = LinkDown
+sinkInput LockReport = LockReport
+sinkInput Crossed = Crossed
 
-abbrev pub sinkFromNeighborDown : Input → State
-sinkFromNeighborDown GotDown = Init
-sinkFromNeighborDown GotInit = Up
-sinkFromNeighborDown GotUp = Up
-sinkFromNeighborDown GotAdminDown = NeighborDown
-sinkFromNeighborDown Timer = NeighborDown
-sinkFromNeighborDown LinkDown = NeighborDown
-sinkFromNeighborDown LockReport = NeighborDown
-sinkFromNeighborDown Crossed = NeighborDown
+-- what an input is to a session of the mode
+abbrev pub inputIn : Mode → State → Input → Input
+inputIn Coordinated from input = input
+inputIn Source from input = sourceInput from input
+inputIn Sink from input = sinkInput input
 
--- a sink elsewhere moves as a coordinated session does
-abbrev pub sinkMoved : State → Input → State
-sinkMoved AdminDown input = AdminDown
-sinkMoved Down input = sinkFromDown input
-sinkMoved NeighborDown input = sinkFromNeighborDown input
-sinkMoved Init input = fromInit input
-sinkMoved Up input = fromUp input
-
--- the moving table of each mode
+-- the moving table of each mode is the coordinated one over these inputs. That it is the figure of the mode as drawn is proved
 abbrev pub movedIn : Mode → State → Input → State
-movedIn Coordinated from input = moved from input
-movedIn Source from input = sourceMoved from input
-movedIn Sink from input = sinkMoved from input
+movedIn mode from input = moved from (inputIn mode from input)
 
 -- a source in UP, which has no loss
 abbrev pub isSourceUp : Mode → State → Bool
@@ -85,6 +71,10 @@ isSourceUp Source NeighborDown = false
 isSourceUp Source Init = false
 isSourceUp Source Up = true
 isSourceUp Sink state = false
+
+-- what a loss needs beside its dates, of the numbers in a record: not locked, and no source in UP
+abbrev pub exposed : ℕ → ℕ → Bool
+exposed mode state = not (isLocked (stateOf state)) && not (isSourceUp (modeOf mode) (stateOf state))
 
 -- a crossing or a followed condition holds a coordinated session down, and no other
 abbrev pub isCoordinated : Mode → Bool

@@ -1,16 +1,11 @@
-// What the mode of a session decides: how it moves (RFC 6428, Figures 8 and 9 beside Figure 7), whether it can have a
-// loss, whether it is held down, and what it asks of the far end.
+// What the mode of a session decides: how it moves (RFC 6428, Figures 8 and 9 beside Figure 7), whether
+// it can have a loss, and what it asks of the far end.
 use crate::Input;
 use crate::Mode;
 use crate::State;
 use crate::moves::coordinated_move;
-use crate::moves::from_down;
-use crate::moves::from_init;
-use crate::moves::from_neighbor_down;
-use crate::moves::from_up;
 ghost use mathlib.Core.Path.{_≡_};
-ghost use Rattle.rules.specs.declared.Mode.the-variants.{Source};
-ghost use Rattle.rules.specs.Modes.{modeOf, sourceFromUp, sourceMoved, sinkFromDown, sinkFromNeighborDown, sinkMoved, movedIn, isSourceUp, isCoordinated, requiredInterval};
+ghost use Rattle.rules.specs.Modes.{modeOf, sourceUpInput, sourceInput, sinkInput, inputIn, movedIn, exposed, requiredInterval};
 
 // The mode of its number; every number above 1 is a sink's.
 pub fn mode_of(n: u8) -> Mode
@@ -25,117 +20,78 @@ pub fn mode_of(n: u8) -> Mode
     Mode::Sink
 }
 
-fn source_from_up(input: Input) -> State
-    ensures { λ r. ⌜ r ≡ sourceFromUp input ⌝ }
+fn source_up_input(input: Input) -> Input
+    ensures { λ r. ⌜ r ≡ sourceUpInput input ⌝ }
 {
     match input {
-        Input::GotDown => State::Up,
-        Input::GotInit => State::Up,
-        Input::GotUp => State::Up,
-        Input::GotAdminDown => State::NeighborDown,
-        Input::Timer => State::Up,
-        Input::LinkDown => State::Up,
-        Input::LockReport => State::Up,
-        Input::Crossed => State::Up,
+        Input::GotAdminDown => Input::GotAdminDown,
+        Input::GotDown => Input::GotUp,
+        Input::GotInit => Input::GotUp,
+        Input::GotUp => Input::GotUp,
+        Input::Timer => Input::GotUp,
+        Input::LinkDown => Input::GotUp,
+        Input::LockReport => Input::GotUp,
+        Input::Crossed => Input::GotUp,
     }
 }
 
-fn source_move(from: State, input: Input) -> State
-    ensures { λ r. ⌜ r ≡ sourceMoved from input ⌝ }
+fn source_input(from: State, input: Input) -> Input
+    ensures { λ r. ⌜ r ≡ sourceInput from input ⌝ }
 {
     match from {
-        State::AdminDown => State::AdminDown,
-        State::Down => from_down(input),
-        State::NeighborDown => from_neighbor_down(input),
-        State::Init => from_init(input),
-        State::Up => source_from_up(input),
+        State::AdminDown => input,
+        State::Down => input,
+        State::NeighborDown => input,
+        State::Init => input,
+        State::Up => source_up_input(input),
     }
 }
 
-fn sink_from_down(input: Input) -> State
-    ensures { λ r. ⌜ r ≡ sinkFromDown input ⌝ }
+fn sink_input(input: Input) -> Input
+    ensures { λ r. ⌜ r ≡ sinkInput input ⌝ }
 {
     match input {
-        Input::GotDown => State::Init,
-        Input::GotInit => State::Up,
-        Input::GotUp => State::Up, // with no INIT between
-        Input::GotAdminDown => State::Down,
-        Input::Timer => State::Down,
-        Input::LinkDown => State::Down,
-        Input::LockReport => State::Down,
-        Input::Crossed => State::Down,
+        Input::GotAdminDown => Input::GotAdminDown,
+        Input::GotDown => Input::GotDown,
+        Input::GotInit => Input::GotInit,
+        Input::GotUp => Input::GotInit,
+        Input::Timer => Input::Timer,
+        Input::LinkDown => Input::LinkDown,
+        Input::LockReport => Input::LockReport,
+        Input::Crossed => Input::Crossed,
     }
 }
 
-fn sink_from_neighbor_down(input: Input) -> State
-    ensures { λ r. ⌜ r ≡ sinkFromNeighborDown input ⌝ }
+fn input_in(mode: Mode, from: State, input: Input) -> Input
+    ensures { λ r. ⌜ r ≡ inputIn mode from input ⌝ }
 {
-    match input {
-        Input::GotDown => State::Init,
-        Input::GotInit => State::Up,
-        Input::GotUp => State::Up,
-        Input::GotAdminDown => State::NeighborDown,
-        Input::Timer => State::NeighborDown,
-        Input::LinkDown => State::NeighborDown,
-        Input::LockReport => State::NeighborDown,
-        Input::Crossed => State::NeighborDown,
+    match mode {
+        Mode::Coordinated => input,
+        Mode::Source => source_input(from, input),
+        Mode::Sink => sink_input(input),
     }
 }
 
-fn sink_move(from: State, input: Input) -> State
-    ensures { λ r. ⌜ r ≡ sinkMoved from input ⌝ }
-{
-    match from {
-        State::AdminDown => State::AdminDown,
-        State::Down => sink_from_down(input),
-        State::NeighborDown => sink_from_neighbor_down(input),
-        State::Init => from_init(input),
-        State::Up => from_up(input),
-    }
-}
-
-// The moving table of the mode.
+// How a session of the mode moves. One table serves all three, since three of its size at every move
+// would be too much code to be put in place.
 pub fn move_by(mode: Mode, from: State, input: Input) -> State
     ensures { λ r. ⌜ r ≡ movedIn mode from input ⌝ }
 {
-    match mode {
-        Mode::Coordinated => coordinated_move(from, input),
-        Mode::Source => source_move(from, input),
-        Mode::Sink => sink_move(from, input),
-    }
+    coordinated_move(from, input_in(mode, from, input))
 }
 
-fn is_up(state: State) -> bool
-    ensures { λ r. ⌜ r ≡ isSourceUp Source state ⌝ }
+// Whether a session can have a loss, by its two numbers: it is asked behind the dates, which few
+// sessions are past.
+pub fn is_exposed(mode: u8, state: u8) -> bool
+    ensures { λ r. ⌜ r ≡ exposed mode state ⌝ }
 {
-    match state {
-        State::AdminDown => false,
-        State::Down => false,
-        State::NeighborDown => false,
-        State::Init => false,
-        State::Up => true,
+    if state == 0 {
+        return false;
     }
-}
-
-// A source in UP.
-pub fn is_source_up(mode: Mode, state: State) -> bool
-    ensures { λ r. ⌜ r ≡ isSourceUp mode state ⌝ }
-{
-    match mode {
-        Mode::Coordinated => false,
-        Mode::Source => is_up(state),
-        Mode::Sink => false,
+    if state != 3 {
+        return true;
     }
-}
-
-pub fn is_coordinated(mode: Mode) -> bool
-    ensures { λ r. ⌜ r ≡ isCoordinated mode ⌝ }
-{
-    match mode {
-        Mode::Coordinated => true,
-        Mode::Source => false,
-        Mode::Sink => false,
-    }
+    mode != 1
 }
 
 // The required receive interval that a session of the mode writes.

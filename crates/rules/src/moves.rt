@@ -4,7 +4,7 @@ use crate::State;
 ghost use mathlib.Core.Path.{_≡_};
 ghost use Rattle.rules.specs.States.{fromDown, fromNeighborDown, fromInit, fromUp, moved, received, heardInput, reported, isLocked, downByNeighbor, isComingUp, stored, stateOf};
 
-pub(crate) fn from_down(input: Input) -> State
+fn from_down(input: Input) -> State
     ensures { λ r. ⌜ r ≡ fromDown input ⌝ }
 {
     match input {
@@ -19,7 +19,7 @@ pub(crate) fn from_down(input: Input) -> State
     }
 }
 
-pub(crate) fn from_neighbor_down(input: Input) -> State
+fn from_neighbor_down(input: Input) -> State
     ensures { λ r. ⌜ r ≡ fromNeighborDown input ⌝ }
 {
     match input {
@@ -34,7 +34,7 @@ pub(crate) fn from_neighbor_down(input: Input) -> State
     }
 }
 
-pub(crate) fn from_init(input: Input) -> State
+fn from_init(input: Input) -> State
     ensures { λ r. ⌜ r ≡ fromInit input ⌝ }
 {
     match input {
@@ -49,7 +49,7 @@ pub(crate) fn from_init(input: Input) -> State
     }
 }
 
-pub(crate) fn from_up(input: Input) -> State
+fn from_up(input: Input) -> State
     ensures { λ r. ⌜ r ≡ fromUp input ⌝ }
 {
     match input {
@@ -65,7 +65,7 @@ pub(crate) fn from_up(input: Input) -> State
 }
 
 // The moving table of a coordinated session.
-pub(crate) fn coordinated_move(from: State, input: Input) -> State
+pub fn coordinated_move(from: State, input: Input) -> State
     ensures { λ r. ⌜ r ≡ moved from input ⌝ }
 {
     match from {

@@ -7,10 +7,12 @@ use Rattle.octets.proofs.Chain.{and-both}
 use Rattle.rules.specs.declared.State.{State}
 use Rattle.rules.specs.declared.Input.the-variants.{Timer}
 use Rattle.rules.specs.Times.{past, detectionTime}
-use Rattle.rules.specs.States.{isLocked, isComingUp, stored, stateOf}
-use Rattle.rules.specs.Modes.{modeIn, isSourceUp}
+use Rattle.rules.specs.States.{moved, isLocked, isComingUp, stored, stateOf}
+use Rattle.rules.specs.Modes.{modeIn, isSourceUp, exposed}
 use Rattle.rules.proofs.Ages.{past-later}
+use borrow.Author.Tests.{not-true}
 use Rattle.rules.proofs.Bools.{split, both-true}
+use Rattle.rules.proofs.Exposed.{timer-alike}
 use Rattle.rules.proofs.States.{state-stored, moved-locked, timer-twice, byTimer, no-rise, source-still}
 use Rattle.session.specs.declared.Session.{Session}
 use Rattle.session.specs.Queries.{lockedIn, sourceUpIn, lossAt, stateAt}
@@ -24,6 +26,38 @@ loss-later s now later h e =
     let a = and-both (not (lockedIn s)) (not (sourceUpIn s) && past (s .timed) span now) e in
     let b = and-both (not (sourceUpIn s)) (past (s .timed) span now) (a .1) in
     both-true (a .0) (both-true (b .0) (past-later (s .timed) span now later h (b .1)))
+
+-- the loss as the code asks for it: the dates first, and where they are past whether the session can have one
+past-last : (a b : Bool) → a && b ≡ a && (b && true)
+past-last true true = refl
+past-last true false = refl
+past-last false b = refl
+
+not-past : (a b : Bool) → false ≡ a && (b && false)
+not-past true true = refl
+not-past true false = refl
+not-past false b = refl
+
+pub overdue-loss : (s : Session) (now : ℕ) → past (s .timed) (detectionTime (s .settings .period) (s .peer .multiplier)) now ≡ true
+    → exposed (s .settings .mode) (s .state) ≡ lossAt s now
+unfolding lossAt
+overdue-loss s now e = rw e (past-last (not (lockedIn s)) (not (sourceUpIn s)))
+
+pub in-time-loss : (s : Session) (now : ℕ) → past (s .timed) (detectionTime (s .settings .period) (s .peer .multiplier)) now ≡ false → false ≡ lossAt s now
+unfolding lossAt
+in-time-loss s now e = rw e (not-past (not (lockedIn s)) (not (sourceUpIn s)))
+
+-- TIMER as the code gives it: a session with a loss is no source in UP, and all others move alike
+pub timer-given : (s : Session) (now : ℕ) → cond (lossAt s now) (moved (stateOf (s .state)) Timer) (stateOf (s .state)) ≡ stateAt s now
+unfolding lossAt stateAt
+timer-given s now =
+    split (lossAt s now)
+    (λ e.
+    let span = detectionTime (s .settings .period) (s .peer .multiplier) in
+    let a = and-both (not (lockedIn s)) (not (sourceUpIn s) && past (s .timed) span now) e in
+    let b = and-both (not (sourceUpIn s)) (past (s .timed) span now) (a .1) in
+    rw e (sym (timer-alike (modeIn (s .settings)) (stateOf (s .state)) (not-true (sourceUpIn s) (b .0)))))
+    (λ e. rw e)
 
 -- settling neither locks nor unlocks
 settled-locked : (s : Session) (now : ℕ) → lockedIn (settled s now) ≡ lockedIn s

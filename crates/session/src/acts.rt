@@ -3,7 +3,6 @@ use crate::Peer;
 use crate::Session;
 use crate::queries::held_at;
 use crate::queries::is_locked;
-use crate::queries::mode_in;
 use crate::queries::state_at;
 use crate::steps::fault_state;
 use bfd::Packet;
@@ -96,7 +95,7 @@ fn cc_live(s: Session, reading: u64, p: Packet) -> Live
 {
     let held = held_at(s, reading);
     let input = rules::heard_input(held, p.state);
-    let to = rules::move_by(mode_in(s), state_at(s, reading), input);
+    let to = rules::move_by(rules::mode_of(s.settings.mode), state_at(s, reading), input);
     let before = s.peer.owed == 1;
     let peer = Peer {
         remote: p.my,
@@ -128,7 +127,11 @@ fn cv_live(s: Session, reading: u64) -> Live
 fn crossed_live(s: Session, reading: u64) -> Live
     ensures { λ r. ⌜ r ≡ liveOf (crossedAt s reading) ⌝ }
 {
-    let to = rules::move_by(mode_in(s), state_at(s, reading), Input::Crossed);
+    let to = rules::move_by(
+        rules::mode_of(s.settings.mode),
+        state_at(s, reading),
+        Input::Crossed,
+    );
     let number = rules::stored_number(to);
     let mut live = live_of(s);
     live.crossed = reading;

@@ -6,14 +6,13 @@ use gach::CC_CHANNEL;
 use octets::bit;
 use octets::both;
 use rules::Input;
-use rules::Mode;
 use rules::Report;
 use rules::State;
 ghost use mathlib.Core.Path.{_≡_};
-ghost use mathlib.Core.Bool.{cond, not};
-ghost use Rattle.rules.specs.Modes.{modeIn, movedIn};
+ghost use mathlib.Core.Bool.{cond};
+ghost use Rattle.rules.specs.States.{moved};
 ghost use Rattle.rules.specs.declared.Input.the-variants.{Timer};
-ghost use Rattle.session.specs.Queries.{lockedIn, sourceUpIn, lossAt, crossingAt, defectAt, heldAt, stateAt, reportAt, diagnosticAt, packetAt, ccOctetsAt, cvSizeOf, cvWholeAt};
+ghost use Rattle.session.specs.Queries.{lockedIn, lossAt, crossingAt, defectAt, heldAt, stateAt, reportAt, diagnosticAt, packetAt, ccOctetsAt, cvSizeOf, cvWholeAt};
 
 pub fn is_locked(s: Session) -> bool
     ensures { λ r. ⌜ r ≡ lockedIn s ⌝ }
@@ -21,27 +20,16 @@ pub fn is_locked(s: Session) -> bool
     rules::locked(rules::state_of(s.state))
 }
 
-pub(crate) fn mode_in(s: Session) -> Mode
-    ensures { λ r. ⌜ r ≡ modeIn (s .settings) ⌝ }
-{
-    rules::mode_of(s.settings.mode)
-}
-
-fn source_up_in(s: Session) -> bool
-    ensures { λ r. ⌜ r ≡ sourceUpIn s ⌝ }
-{
-    rules::is_source_up(mode_in(s), rules::state_of(s.state))
-}
-
-// A loss: more than the detection time, not locked, and no source in UP.
+// A loss: more than the detection time, not locked, and no source in UP. Most are not late, so that is
+// asked first.
 pub fn loss_at(s: Session, now: u64) -> bool
     ensures { λ r. ⌜ r ≡ lossAt s now ⌝ }
 {
-    let locked = is_locked(s);
-    let up = source_up_in(s);
     let span = rules::detection_time(s.settings.period, s.peer.multiplier);
-    let past = rules::is_past(s.timed, span, now);
-    both(!locked, both(!up, past))
+    if rules::is_past(s.timed, span, now) {
+        return rules::is_exposed(s.settings.mode, s.state);
+    }
+    false
 }
 
 // A crossing: less than its time since the last crossed message.
@@ -81,15 +69,18 @@ fn defect_at(s: Session, now: u64) -> bool
 pub(crate) fn held_at(s: Session, now: u64) -> bool
     ensures { λ r. ⌜ r ≡ heldAt s now ⌝ }
 {
-    let coordinated = rules::is_coordinated(mode_in(s));
-    both(coordinated, defect_at(s, now))
+    if s.settings.mode != 0 {
+        return false;
+    }
+    defect_at(s, now)
 }
 
-fn after_timer(mode: Mode, loss: bool, from: State) -> State
-    ensures { λ r. ⌜ r ≡ cond loss (movedIn mode from Timer) from ⌝ }
+// A session with a loss is no source in UP, and TIMER moves all others alike.
+fn after_timer(loss: bool, from: State) -> State
+    ensures { λ r. ⌜ r ≡ cond loss (moved from Timer) from ⌝ }
 {
     if loss {
-        return rules::move_by(mode, from, Input::Timer);
+        return rules::coordinated_move(from, Input::Timer);
     }
     from
 }
@@ -99,7 +90,7 @@ pub fn state_at(s: Session, now: u64) -> State
     ensures { λ r. ⌜ r ≡ stateAt s now ⌝ }
 {
     let loss = loss_at(s, now);
-    after_timer(mode_in(s), loss, rules::state_of(s.state))
+    after_timer(loss, rules::state_of(s.state))
 }
 
 // The seven numbers of the report.
@@ -148,7 +139,7 @@ pub fn packet_at(s: Session, now: u64, fin: bool) -> Packet
     ensures { λ r. ⌜ r ≡ packetAt s now fin ⌝ }
 {
     let state = state_at(s, now);
-    let required = rules::required_interval(mode_in(s), s.settings.period);
+    let required = rules::required_interval(rules::mode_of(s.settings.mode), s.settings.period);
     Packet {
         diagnostic: diagnostic_at(s, now),
         state: rules::report_number(state),

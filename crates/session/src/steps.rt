@@ -2,7 +2,6 @@
 use crate::Peer;
 use crate::Session;
 use crate::queries::is_locked;
-use crate::queries::mode_in;
 use crate::queries::state_at;
 use fault::Fault;
 use rules::Mode;
@@ -117,7 +116,12 @@ pub(crate) fn fault_state(s: Session, reading: u64, f: Fault) -> u8
 {
     let settings = s.settings;
     let acts = follows_fault(settings, f);
-    let to = state_by_fault(mode_in(s), acts, state_at(s, reading), f.kind);
+    let to = state_by_fault(
+        rules::mode_of(s.settings.mode),
+        acts,
+        state_at(s, reading),
+        f.kind,
+    );
     rules::stored_number(to)
 }
 

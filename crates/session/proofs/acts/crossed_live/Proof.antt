@@ -5,7 +5,7 @@ use Rattle.session.proofs.acts.crossed_live.Tie as tie
 
 returns : tie.Need-returns
 unfolding crossedAt
-returns c = rw (c .live-of .ensures, c .before .stored-number .ensures, c .before .before .move-by .ensures, c .before .before .before .state-at .ensures, c .before .before .before .before .mode-in .ensures)
+returns c = rw (c .live-of .ensures, c .before .stored-number .ensures, c .before .before .move-by .ensures, c .before .before .before .state-at .ensures, c .before .before .before .before .mode-of .ensures)
 
 pub crossed-live-spec : {M : Type 1} → statement M
 crossed-live-spec =

@@ -1,11 +1,26 @@
-use Rattle.session.specs.Queries.{lossAt}
+use mathlib.Core.Path.{sym, ap, _∙_}
+use Prim.Native.Nat.{ℕ}
+use Rattle.rules.specs.Times.{past}
+use Rattle.session.proofs.Settling.{overdue-loss, in-time-loss}
 use borrow.Author.Needs.{needs}
 use Rattle.session.proofs.queries.loss_at.Statement.{statement}
 use Rattle.session.proofs.queries.loss_at.Tie as tie
 
+returns : tie.Need-returns
+returns c =
+    let d = c .before .before in
+    let a = d .before .before .args in
+    let span = ap (λ (x : ℕ). past (a .s .timed) x (a .now)) (sym (d .before .detection-time .ensures)) in
+    c .is-exposed .ensures ∙ overdue-loss (a .s) (a .now) (span ∙ sym (d .is-past .ensures) ∙ c .before .if1 .taken)
+
+returns-2 : tie.Need-returns-2
+returns-2 c =
+    let d = c .before in
+    let a = d .before .before .args in
+    let span = ap (λ (x : ℕ). past (a .s .timed) x (a .now)) (sym (d .before .detection-time .ensures)) in
+    in-time-loss (a .s) (a .now) (span ∙ sym (d .is-past .ensures) ∙ c .if1 .left)
+
 pub loss-at-spec : {M : Type 1} → statement M
-unfolding lossAt
 loss-at-spec =
     tie.close
-    (tie.spec (λ c κs. search needs) (λ c κs. search needs) (λ c κs. search needs) (λ c κs. search needs) (λ c κs. search needs) (λ c κs. search needs)
-    (λ c. rw (c .both2 .ensures, c .before .both .ensures, c .before .before .is-past .ensures, c .before .before .before .detection-time .ensures, c .before .before .before .before .source-up-in .ensures, c .before .before .before .before .before .is-locked .ensures)))
+    (tie.spec (λ c κs. search needs) (λ c κs. search needs) (λ c κs. search needs) returns returns-2)

@@ -8,4 +8,4 @@ unfolding packetAt
 packet-at-spec =
     tie.close
     (tie.spec (λ c κs. search needs) (λ c κs. search needs) (λ c κs. search needs) (λ c κs. search needs) (λ c κs. search needs)
-    (λ c. rw (c .report-number .ensures, c .before .diagnostic-at .ensures, c .before .before .required-interval .ensures, c .before .before .before .mode-in .ensures, c .before .before .before .before .state-at .ensures)))
+    (λ c. rw (c .report-number .ensures, c .before .diagnostic-at .ensures, c .before .before .required-interval .ensures, c .before .before .before .mode-of .ensures, c .before .before .before .before .state-at .ensures)))

@@ -3,7 +3,7 @@ use Rattle.session.proofs.steps.fault_state.Statement.{statement}
 use Rattle.session.proofs.steps.fault_state.Tie as tie
 
 returns : tie.Need-returns
-returns c = rw (c .stored-number .ensures, c .before .state-by-fault .ensures, c .before .before .state-at .ensures, c .before .before .before .mode-in .ensures, c .before .before .before .before .follows-fault .ensures)
+returns c = rw (c .stored-number .ensures, c .before .state-by-fault .ensures, c .before .before .state-at .ensures, c .before .before .before .mode-of .ensures, c .before .before .before .before .follows-fault .ensures)
 
 pub fault-state-spec : {M : Type 1} → statement M
 fault-state-spec =
