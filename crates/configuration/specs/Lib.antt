@@ -1,0 +1,4 @@
+pub mod Entries
+pub mod Reading
+pub mod Octets
+pub mod Noting
