@@ -1,2 +1,5 @@
 pub mod Walk
 pub mod Noted
+pub mod Refusals
+pub mod RoundTrip
+pub mod Unread
