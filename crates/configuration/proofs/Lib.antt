@@ -3,3 +3,4 @@ pub mod Noted
 pub mod Refusals
 pub mod RoundTrip
 pub mod Unread
+pub mod Examples

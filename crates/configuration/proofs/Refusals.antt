@@ -102,7 +102,7 @@ module _ (es : List Entry) where
       (one-fails (not-one words.discriminator) (not-one words.timers))
 
   one-not : (test : Entry → Bool) → Needed test → eqb (count test es) 1 ≡ false → onceEach es ≡ false
-  one-not test words.functions e = simp (e, and-false)
+  one-not test words.functions e = rw e
   one-not test words.configuration e = simp (e, and-false)
   one-not test words.discriminator e = simp (e, and-false)
   one-not test words.timers e = simp (e, and-false)
@@ -116,7 +116,7 @@ module _ (d p : ℕ) where
   unfit-told = one-fails (λ e. noDiscriminator (nought d e)) (one-fails (λ e. periodBelow (leb-false 1000 p e)) (λ e. periodAbove (leb-false p 10000000 e)))
 
   unfit-untold : UnfitOffer d p → offerFits d p ≡ false
-  unfit-untold (noDiscriminator h) = simp (nought-fails d h, and-false)
+  unfit-untold (noDiscriminator h) = rw (nought-fails d h)
   unfit-untold (periodBelow h) = simp (lt-leb 1000 p h, and-false)
   unfit-untold (periodAbove h) = simp (lt-leb p 10000000 h, and-false)
 
@@ -193,19 +193,28 @@ module _ (a : ℕ) (xs : List ℕ) where
   abbrev es : List Entry
   es = entriesIn 3 xs
 
+  abbrev overrun : Bool
+  overrun = any (λ e. e .past) es
+
+  abbrev unallowed : Bool
+  unallowed = any (wrongLength a) es
+
+  abbrev fitting : Bool
+  fitting = offerFits (offerOf es .discriminator) (offerOf es .period)
+
   no-clash : (clashes a ≡ false) ↔ (Clash a → ⊥)
   no-clash = says-not (clash-says a)
 
-  some-past : Says (any (λ e. e .past) es) (Some Past es)
+  some-past : Says overrun (Some Past es)
   some-past = some-says (λ e. e .past) Past past-says es
 
-  some-wrong : Says (any (wrongLength a) es) (Some (WrongLength a) es)
+  some-wrong : Says unallowed (Some (WrongLength a) es)
   some-wrong = some-says (wrongLength a) (WrongLength a) (λ e. (wrong-told a e, wrong-untold a e)) es
 
   once-told : (onceEach es ≡ true) ↔ (MissingOrTwice es → ⊥)
   once-told = ((λ e m. true-false e (lacking-untold es m)), (λ n. forced (onceEach es) (λ e. n (lacking-told es e))))
 
-  fits-told : (offerFits (offerOf es .discriminator) (offerOf es .period) ≡ true) ↔ (UnfitOffer (offerOf es .discriminator) (offerOf es .period) → ⊥)
+  fits-told : (fitting ≡ true) ↔ (UnfitOffer (offerOf es .discriminator) (offerOf es .period) → ⊥)
   fits-told = ((λ e u. true-false e (unfit-untold _ _ u)), (λ n. forced _ (λ e. n (unfit-told _ _ e))))
 
   refusal-by : (n : ℕ) → readConfiguration a xs ≡ refused n → refusalOf a es ≡ n
@@ -224,22 +233,22 @@ module _ (a : ℕ) (xs : List ℕ) where
   pub reading-16 : (readConfiguration a xs ≡ refused 16) ↔ ((Clash a → ⊥) × Some Past es)
   unfolding refusalOf
   reading-16 = (
-    (λ e. let b = by-16 _ _ _ _ _ .0 (refusal-by 16 e) in (no-clash .0 (b .0), some-past .0 (b .1))),
-    (λ w. by-refusal 15 (by-16 _ _ _ _ _ .1 (no-clash .1 (w .0), some-past .1 (w .1)))),
+    (λ e. let b = by-16 (clashes a) overrun unallowed (onceEach es) fitting .0 (refusal-by 16 e) in (no-clash .0 (b .0), some-past .0 (b .1))),
+    (λ w. by-refusal 15 (by-16 (clashes a) overrun unallowed (onceEach es) fitting .1 (no-clash .1 (w .0), some-past .1 (w .1)))),
   )
 
   pub reading-17 : (readConfiguration a xs ≡ refused 17) ↔ ((Clash a → ⊥) × (Some Past es → ⊥) × Some (WrongLength a) es)
   unfolding refusalOf
   reading-17 = (
-    (λ e. let b = by-17 _ _ _ _ _ .0 (refusal-by 17 e) in (no-clash .0 (b .0), says-not some-past .0 (b .1), some-wrong .0 (b .2))),
-    (λ w. by-refusal 16 (by-17 _ _ _ _ _ .1 (no-clash .1 (w .0), says-not some-past .1 (w .1), some-wrong .1 (w .2)))),
+    (λ e. let b = by-17 (clashes a) overrun unallowed (onceEach es) fitting .0 (refusal-by 17 e) in (no-clash .0 (b .0), says-not some-past .0 (b .1), some-wrong .0 (b .2))),
+    (λ w. by-refusal 16 (by-17 (clashes a) overrun unallowed (onceEach es) fitting .1 (no-clash .1 (w .0), says-not some-past .1 (w .1), some-wrong .1 (w .2)))),
   )
 
   pub reading-18 : (readConfiguration a xs ≡ refused 18) ↔ ((Clash a → ⊥) × (Some Past es → ⊥) × (Some (WrongLength a) es → ⊥) × MissingOrTwice es)
   unfolding refusalOf
   reading-18 = (
-    (λ e. let b = by-18 _ _ _ _ _ .0 (refusal-by 18 e) in (no-clash .0 (b .0), says-not some-past .0 (b .1), says-not some-wrong .0 (b .2), lacking-told es (b .3))),
-    (λ w. by-refusal 17 (by-18 _ _ _ _ _ .1 (no-clash .1 (w .0), says-not some-past .1 (w .1), says-not some-wrong .1 (w .2), lacking-untold es (w .3)))),
+    (λ e. let b = by-18 (clashes a) overrun unallowed (onceEach es) fitting .0 (refusal-by 18 e) in (no-clash .0 (b .0), says-not some-past .0 (b .1), says-not some-wrong .0 (b .2), lacking-told es (b .3))),
+    (λ w. by-refusal 17 (by-18 (clashes a) overrun unallowed (onceEach es) fitting .1 (no-clash .1 (w .0), says-not some-past .1 (w .1), says-not some-wrong .1 (w .2), lacking-untold es (w .3)))),
   )
 
   -- 10 for the setting, or behind all others for the two numbers
@@ -251,10 +260,10 @@ module _ (a : ℕ) (xs : List ℕ) where
     (λ e.
         ⊎-elim (λ c. inl (clash-says a .0 c))
         (λ b. inr (no-clash .0 (b .0), says-not some-past .0 (b .1), says-not some-wrong .0 (b .2), once-told .0 (b .3), unfit-told _ _ (b .4)))
-        (by-10 _ _ _ _ _ .0 (refusal-by 10 e))),
+        (by-10 (clashes a) overrun unallowed (onceEach es) fitting .0 (refusal-by 10 e))),
     (λ w.
         by-refusal 9
-        (by-10 _ _ _ _ _ .1
+        (by-10 (clashes a) overrun unallowed (onceEach es) fitting .1
         (⊎-elim (λ c. inl (clash-says a .1 c))
         (λ v. inr (no-clash .1 (v .0), says-not some-past .1 (v .1), says-not some-wrong .1 (v .2), once-told .1 (v .3), unfit-untold _ _ (v .4)))
         w))),
@@ -267,10 +276,10 @@ module _ (a : ℕ) (xs : List ℕ) where
   unfolding refusalOf readConfiguration
   reading-0 o = (
     (λ e. let x = answer-accepted (refusalOf a es) o (offerOf es) (sym e) in
-        let b = by-0 _ _ _ _ _ .0 (x .0) in
+        let b = by-0 (clashes a) overrun unallowed (onceEach es) fitting .0 (x .0) in
         (no-clash .0 (b .0), says-not some-past .0 (b .1), says-not some-wrong .0 (b .2), once-told .0 (b .3), fits-told .0 (b .4), x .1)),
     (λ w.
-        let z : refusalOf a es ≡ 0 = by-0 _ _ _ _ _ .1 (no-clash .1 (w .0), says-not some-past .1 (w .1), says-not some-wrong .1 (w .2), once-told .1 (w .3), fits-told .1 (w .4)) in
+        let z : refusalOf a es ≡ 0 = by-0 (clashes a) overrun unallowed (onceEach es) fitting .1 (no-clash .1 (w .0), says-not some-past .1 (w .1), says-not some-wrong .1 (w .2), once-told .1 (w .3), fits-told .1 (w .4)) in
         rw (z, w .5)),
   )
 

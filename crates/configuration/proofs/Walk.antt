@@ -42,10 +42,11 @@ first-entry l (x ∷ xs) h =
     let rest = drop (paddedSize (sizeOf (x ∷ xs))) (x ∷ xs) in
     ap (λ (es : List Entry). entryAt l (x ∷ xs) ∷ es) (enough (length xs) (length rest) l rest (omega (arith, f)) (omega arith))
 
-pub first-in : (l : ℕ) (xs : List ℕ) → 0 < length xs
+-- "and a list holds TLVs"
+pub list-holds-tlvs : (l : ℕ) (xs : List ℕ) → 0 < length xs
     → entriesIn l xs ≡ withHeld l (entryAt l xs) ++ entriesIn l (drop (paddedSize (sizeOf xs)) xs)
 unfolding entriesIn each
-first-in l xs h = ap (each (withHeld l)) (first-entry l xs h)
+list-holds-tlvs l xs h = ap (each (withHeld l)) (first-entry l xs h)
 
 pub none-in : (l : ℕ) (xs : List ℕ) → length xs ≤ 0 → entriesIn l xs ≡ []
 unfolding entriesIn each following
@@ -80,7 +81,7 @@ module _ (a : ℕ) where
   pub turned : (l : ℕ) (xs : List ℕ) (s r w : Seen) {at : ℕ} → 0 < length xs → at ≡ min (length xs) (paddedSize (sizeOf xs))
       → r ≡ notedAll a s (withHeld l (entryAt l xs)) → notedAll a s (entriesIn l xs) ≡ w → notedAll a r (entriesIn l (take (length xs - at) (drop at xs))) ≡ w
   turned l xs s r w h at-is r-is i =
-      rw (behind xs at-is, r-is) (sym (noted-joined s (withHeld l (entryAt l xs)) (entriesIn l (drop (paddedSize (sizeOf xs)) xs))) ∙ ap (notedAll a s) (sym (first-in l xs h)) ∙ i)
+      rw (behind xs at-is, r-is) (sym (noted-joined s (withHeld l (entryAt l xs)) (entriesIn l (drop (paddedSize (sizeOf xs)) xs))) ∙ ap (notedAll a s) (sym (list-holds-tlvs l xs h)) ∙ i)
 
   pub over : (l : ℕ) (xs : List ℕ) (s w : Seen) → length xs ≤ 0 → notedAll a s (entriesIn l xs) ≡ w → s ≡ w
   unfolding notedAll

@@ -80,9 +80,10 @@ pub fn note(
     let discriminator = is_named(levels, kind, 1, 1);
     let timers = is_named(levels, kind, 1, 2);
     let number = octets::get_u32(value, 0);
+    let transmit = octets::get_u32(value, 0);
     Seen {
         discriminator: chosen(discriminator, number, seen.discriminator),
-        period: chosen(timers, number, seen.period),
+        period: chosen(timers, transmit, seen.period),
         functions: tallied(is_named(levels, kind, 3, 16), seen.functions),
         configurations: tallied(is_named(levels, kind, 2, 1), seen.configurations),
         discriminators: tallied(discriminator, seen.discriminators),

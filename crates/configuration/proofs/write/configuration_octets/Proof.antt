@@ -8,4 +8,5 @@ pub configuration-octets-spec : {M : Type 1} → statement M
 unfolding configurationOctets
 configuration-octets-spec =
     tie.close
-    (tie.spec (λ c. octet-fits _) (λ c. octet-fits _) (λ c. octet-fits _) (λ c. octet-fits _) (λ c. octet-fits _) (λ c. octet-fits _) (λ c. octet-fits _) (λ c. octet-fits _) (λ c. refl))
+    (tie.spec (λ c. octet-fits _) (λ c. octet-fits _) (λ c. octet-fits _) (λ c. octet-fits _)
+    (λ c. octet-fits _) (λ c. octet-fits _) (λ c. octet-fits _) (λ c. octet-fits _) (λ c. refl))
