@@ -3,6 +3,7 @@
 // asks anything of its caller.
 mod answers;
 mod messages;
+mod provisioning;
 mod requests;
 mod version;
 mod why;
