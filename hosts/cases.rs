@@ -615,6 +615,16 @@ fn read_fault_line(m: &[u8]) -> Shown {
     read(r.answer, r.place, r.fault == Fault::default(), fault_fields(r.fault))
 }
 
+/// Discriminator and period of a configuration, by the type of BFD Authentication.
+fn read_configuration_line(authentication: u16, octets: &[u8]) -> Shown {
+    let r = read_configuration(octets, authentication);
+    match r.answer {
+        0 => Ok(Some(answered(0, &numbers(&[r.discriminator.into(), r.period.into()])))),
+        n if r == (ConfigurationRead { answer: n, ..ConfigurationRead::default() }) => Ok(Some(n.to_string())),
+        n => Err(format!("refused with {n}, and yet {r:?}")),
+    }
+}
+
 /// The channel of a header alone. The reader of its kind finds it short, of all its octets, and the
 /// other two another channel, at 2; a header that is refused is refused by all three, at one place. So
 /// it is where it comes in on a label.
@@ -648,6 +658,7 @@ fn write_line(word: &str, w: &mut Words) -> Shown {
             write_cv_message(&mut buffer, p, mep_by(w)?)
         }
         "write-fault" => write_fault_message(&mut buffer, fault_by(w)?),
+        "write-configuration" => write_configuration(&mut buffer, w.number()?, w.number()?),
         _ => return Err(format!("no such word: {word}")),
     };
     w.end()?;
@@ -661,6 +672,7 @@ fn message_line(word: &str, w: &mut Words) -> Shown {
         "cv" => read_cv_line(&w.octets()?),
         "mep" => read_mep_line(&w.octets()?),
         "fault" => read_fault_line(&w.octets()?),
+        "configuration" => read_configuration_line(w.number()?, &w.octets()?),
         _ => write_line(word, w),
     }
 }
@@ -679,7 +691,7 @@ fn follow(last: &mut u64, number: u64) -> Result<(), String> {
 fn play(file: &str, t: &mut Table, last: &mut u64, words: &[&str]) -> Shown {
     let mut w = Words(words.iter());
     let word = w.word()?;
-    if file == "messages.txt" {
+    if file == "messages.txt" || file == "configuration.txt" {
         follow(last, number_of(word)?)?;
         return message_line(w.word()?, &mut w);
     }
@@ -718,7 +730,7 @@ fn holds(folder: &str, file: &str) -> Result<bool, String> {
 fn main() -> ExitCode {
     let folder = std::env::args().nth(1).unwrap_or("hosts/cases".to_string());
     let mut held = unsafe { korvezul_version() } == VERSION;
-    for file in ["messages.txt", "session.txt", "table.txt"] {
+    for file in ["messages.txt", "configuration.txt", "session.txt", "table.txt"] {
         held &= holds(&folder, file).unwrap_or_else(|e| {
             eprintln!("cases: {e}");
             false

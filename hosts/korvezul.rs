@@ -181,6 +181,15 @@ pub struct FaultRead {
     pub fault: Fault,
 }
 
+/// What a configuration offers: 0 and the two numbers, or a refusal and noughts.
+#[repr(C)]
+#[derive(Clone, Copy, Debug, Default, PartialEq)]
+pub struct ConfigurationRead {
+    pub answer: u32,
+    pub discriminator: u32,
+    pub period: u32,
+}
+
 // The layout that the library was compiled with.
 const _: () = {
     assert!(size_of::<Session>() == 272 && align_of::<Session>() == 8 && offset_of!(Session, settings) == 144);
@@ -194,6 +203,7 @@ const _: () = {
     assert!(offset_of!(CcRead, answer) == 8 && offset_of!(CcRead, packet) == 12 && offset_of!(FaultRead, fault) == 12);
     assert!(offset_of!(CvRead, part) == 12 && offset_of!(CvRead, packet) == 20 && offset_of!(CvRead, mep) == 48);
     assert!(size_of::<MepIdRead>() == 56 && offset_of!(MepIdRead, mep) == 8);
+    assert!(size_of::<ConfigurationRead>() == 12 && offset_of!(ConfigurationRead, period) == 8);
     assert!(size_of::<Question>() == 24 && offset_of!(Question, key) == 4 && offset_of!(Question, thing) == 20);
     assert!(size_of::<Cause>() == 48 && offset_of!(Cause, reading) == 16 && offset_of!(Cause, answer) == 40);
 };
@@ -240,6 +250,8 @@ extern "C" {
     pub fn korvezul_write_cc_message(buffer: *mut u8, size: usize, packet: Packet) -> u32;
     pub fn korvezul_write_cv_message(buffer: *mut u8, size: usize, packet: Packet, mep: MepId) -> u32;
     pub fn korvezul_write_fault_message(buffer: *mut u8, size: usize, fault: Fault) -> u32;
+    pub fn korvezul_read_configuration(octets: *const u8, size: usize, authentication: u16) -> ConfigurationRead;
+    pub fn korvezul_write_configuration(buffer: *mut u8, size: usize, discriminator: u32, period: u32) -> u32;
 }
 
 /// A table. A slice or an array is never null and is aligned, and what is borrowed apart is apart:
@@ -332,6 +344,15 @@ pub fn write_fault_message(buffer: &mut [u8], fault: Fault) -> u32 {
     unsafe { korvezul_write_fault_message(buffer.as_mut_ptr(), buffer.len(), fault) }
 }
 
+/// Discriminator and period from nested TLVs; `authentication` is the type of BFD Authentication.
+pub fn read_configuration(octets: &[u8], authentication: u16) -> ConfigurationRead {
+    unsafe { korvezul_read_configuration(octets.as_ptr(), octets.len(), authentication) }
+}
+
+pub fn write_configuration(buffer: &mut [u8], discriminator: u32, period: u32) -> u32 {
+    unsafe { korvezul_write_configuration(buffer.as_mut_ptr(), buffer.len(), discriminator, period) }
+}
+
 /// The names of `korvezul_names.h`.
 pub fn answer_name(answer: u32) -> &'static str {
     match answer {
@@ -351,6 +372,9 @@ pub fn answer_name(answer: u32) -> &'static str {
         13 => "buffer too short",
         14 => "session locked",
         15 => "does not stand",
+        16 => "entry past its holder's end",
+        17 => "entry of a wrong length",
+        18 => "needed entry missing or twice",
         26 => "not a table",
         _ => "unknown",
     }

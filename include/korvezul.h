@@ -62,6 +62,9 @@ enum korvezul_answer {
     KORVEZUL_BUFFER = 13,     /* the lent buffer is too short */
     KORVEZUL_LOCKED = 14,     /* a BFD message for a locked session */
     KORVEZUL_NOT_SO = 15,     /* what is asked about does not stand */
+    KORVEZUL_PAST = 16,       /* an entry of a configuration, padding included, past its holder's end */
+    KORVEZUL_LENGTH = 17,     /* a known entry whose length its layout does not allow */
+    KORVEZUL_NEEDED = 18,     /* a needed entry missing or twice */
     KORVEZUL_TABLE = 26       /* not 64 records, or an open record that no call can have left */
 };
 
@@ -283,6 +286,13 @@ struct korvezul_fault_read {
     struct korvezul_fault fault;
 };
 
+/* What a configuration offers: 0 and the two numbers, or a refusal and noughts. */
+struct korvezul_configuration_read {
+    uint32_t answer;
+    uint32_t discriminator;
+    uint32_t period;
+};
+
 /* The version of the archive, to be compared with KORVEZUL_VERSION. */
 uint32_t korvezul_version(void);
 
@@ -351,6 +361,17 @@ uint32_t korvezul_write_cc_message(uint8_t *buffer, size_t size, struct korvezul
 uint32_t korvezul_write_cv_message(uint8_t *buffer, size_t size, struct korvezul_packet packet,
                                    struct korvezul_mep_id mep);
 uint32_t korvezul_write_fault_message(uint8_t *buffer, size_t size, struct korvezul_fault fault);
+
+/* The settings of a session from LSP Ping records: a list of nested TLVs, OAM Functions, in it BFD
+ * Configuration, in that Local Discriminator and Negotiation Timer Parameters, whose transmit interval
+ * is the period. The draft suggests a type for each of these and none for BFD Authentication: that is
+ * `authentication`. 10 if it is 1 or 2, whatever the octets are; then over the whole list 16, 17, 18,
+ * 10. */
+struct korvezul_configuration_read korvezul_read_configuration(const uint8_t *octets, size_t size,
+                                                               uint16_t authentication);
+
+/* Writes the two, 40 octets, all else nought. 10, 13. */
+uint32_t korvezul_write_configuration(uint8_t *buffer, size_t size, uint32_t discriminator, uint32_t period);
 
 /* The layout that the library was compiled with, held against this compiler's: a size or a place
  * that differs is an array of -1 elements. The numbers are those proved of the library's own structs
@@ -502,6 +523,12 @@ KORVEZUL_ALIGNED(fault_read, 8);
 KORVEZUL_PLACE(fault_read, place, 0);
 KORVEZUL_PLACE(fault_read, answer, 8);
 KORVEZUL_PLACE(fault_read, fault, 12);
+
+KORVEZUL_SIZE(configuration_read, 12);
+KORVEZUL_ALIGNED(configuration_read, 4);
+KORVEZUL_PLACE(configuration_read, answer, 0);
+KORVEZUL_PLACE(configuration_read, discriminator, 4);
+KORVEZUL_PLACE(configuration_read, period, 8);
 
 #undef KORVEZUL_ALIGNED
 #undef KORVEZUL_SIZE

@@ -25,6 +25,9 @@ static inline const char *korvezul_answer_name(uint32_t answer) {
     case KORVEZUL_BUFFER: return "buffer too short";
     case KORVEZUL_LOCKED: return "session locked";
     case KORVEZUL_NOT_SO: return "does not stand";
+    case KORVEZUL_PAST: return "entry past its holder's end";
+    case KORVEZUL_LENGTH: return "entry of a wrong length";
+    case KORVEZUL_NEEDED: return "needed entry missing or twice";
     case KORVEZUL_TABLE: return "not a table";
     default: return "unknown";
     }
