@@ -535,6 +535,36 @@ static void names(void) {
         printf("mode %" PRIu32 " %s\n", i, korvezul_mode_name(i));
 }
 
+/* A configuration with every octet of its two numbers another, written and read, and each answer of
+ * reader and writer once. */
+static void configurations(void) {
+    static const uint16_t settings[] = {3, 1, 2};
+    uint8_t m[44];
+    struct korvezul_configuration_read r;
+    memset(m, 0xee, sizeof m);
+    print_octets("configuration", korvezul_write_configuration(m, sizeof m, 0x01020304, 0x00650b0c), m, sizeof m);
+    for (size_t i = 0; i < 3; i++) {
+        r = korvezul_read_configuration(m, 40, settings[i]);
+        printf("read with %" PRIu16 ": %" PRIu32 " %" PRIu32 " %" PRIu32 "\n", settings[i], r.answer, r.discriminator,
+               r.period);
+    }
+    printf("39, 41, 8, 4 and 0 octets read:");
+    for (size_t i = 0; i < 5; i++) {
+        static const size_t octets[] = {39, 41, 8, 4, 0};
+        r = korvezul_read_configuration(m, octets[i], 3);
+        need(r.discriminator == 0 && r.period == 0, "a number beside a refusal");
+        printf(" %" PRIu32, r.answer);
+    }
+    m[3] = 4;
+    r = korvezul_read_configuration(m, 8, 3);
+    printf("\nan empty list: %" PRIu32, r.answer);
+    m[3] = 3;
+    r = korvezul_read_configuration(m, 8, 3);
+    printf("\nflags of 3 octets: %" PRIu32 "\n", r.answer);
+    printf("not written: %" PRIu32 " %" PRIu32 "\n", korvezul_write_configuration(m, sizeof m, 0, 1000000),
+           korvezul_write_configuration(m, 39, 17, 1000000));
+}
+
 static void headline(const char *text) { printf("-- %s\n", text); }
 
 int main(void) {
@@ -557,6 +587,8 @@ int main(void) {
     absent();
     headline("rows of another length");
     rows();
+    headline("configurations");
+    configurations();
     headline("names");
     names();
     return 0;

@@ -640,6 +640,123 @@ static void look_at_fields(void) {
     }
 }
 
+/* ---- configurations: nested entries, some of them damaged, read again by positions in the octets */
+
+/* One entry with all that is in it, at most so many octets; how many it has. */
+static size_t some_entry(uint8_t *o, size_t most, int level) {
+    static const uint16_t usual[4][3] = {{0, 0, 0}, {1, 2, 3}, {1, 1, 9}, {16, 16, 9}};
+    uint16_t type = once_in(12) ? (uint16_t)below(20) : usual[level][below(3)];
+    size_t n = level == 1 ? (type == 2 ? 12 : 4) : below(9);
+    if (level > 1 && type == usual[level][0]) {
+        size_t entries = below(4);
+        fill(o + 4, 4);
+        for (n = 4; entries > 0 && n + 40 < most; entries--)
+            n += some_entry(o + 4 + n, most - 4 - n, level - 1);
+    } else {
+        fill(o + 4, n);
+        if (type == 2)
+            put(o + 4, 4, once_in(8) ? below(1200) : 1000 + below(9999001));
+    }
+    put(put(o, 2, type), 2, n + (once_in(25) ? below(5) : 0));
+    fill(o + 4 + n, (4 - n % 4) % 4);
+    return 4 + (n + 3) / 4 * 4;
+}
+
+static size_t some_configuration(uint8_t *o, size_t most) {
+    size_t n = 0, entries = once_in(3) ? 1 + below(2) : 0;
+    if (entries == 0 || once_in(2)) {
+        must(korvezul_write_configuration(o, most, (uint32_t)(1 + below(9)), (uint32_t)(1000 + below(99))) == 0,
+             "a configuration is not written");
+        n = 40;
+    }
+    for (; entries > 0; entries--)
+        n += some_entry(o + n, most - n - 64, 3);
+    for (; once_in(2) && n > 0;)
+        o[below(n)] = (uint8_t)(once_in(2) ? below(20) : any() >> 32);
+    return once_in(8) ? below(n + 1) : n;
+}
+
+/* What was met: an entry past its holder's end, a wrong length, how often each of the four, the two
+ * numbers. */
+struct met {
+    int past, wrong, functions, configurations, discriminators, timers;
+    uint64_t discriminator, period;
+};
+
+static void walk(const uint8_t *o, size_t at, size_t end, int level, uint16_t authentication, struct met *m) {
+    while (at < end) {
+        size_t n, next;
+        uint64_t type;
+        if (end - at < 4)
+            break;
+        type = number(o + at, 2);
+        n = (size_t)number(o + at + 2, 2);
+        for (next = at + 4 + n; (next - at) % 4 != 0; next++)
+            ;
+        if (next > end)
+            break;
+        if ((level == 3 && type == 16) || (level == 2 && type == 1)) {
+            *(level == 3 ? &m->functions : &m->configurations) += 1;
+            m->wrong |= n < 4;
+            if (n >= 4)
+                walk(o, at + 8, at + 4 + n, level - 1, authentication, m);
+        }
+        if (level == 1 && type == 1) {
+            m->discriminators++;
+            m->wrong |= n != 4;
+            m->discriminator = n == 4 ? number(o + at + 4, 4) : 0;
+        }
+        if (level == 1 && type == 2) {
+            m->timers++;
+            m->wrong |= n != 12;
+            m->period = n == 12 ? number(o + at + 4, 4) : 0;
+        }
+        if (level == 1 && type == authentication)
+            m->wrong |= n != 4;
+        at = next;
+    }
+    m->past |= at < end;
+}
+
+static uint32_t answer_of(const struct met *m, uint16_t authentication) {
+    if (authentication == 1 || authentication == 2)
+        return KORVEZUL_RANGE;
+    if (m->past)
+        return KORVEZUL_PAST;
+    if (m->wrong)
+        return KORVEZUL_LENGTH;
+    if (m->functions != 1 || m->configurations != 1 || m->discriminators != 1 || m->timers != 1)
+        return KORVEZUL_NEEDED;
+    return m->discriminator == 0 || m->period < 1000 || m->period > 10000000 ? KORVEZUL_RANGE : KORVEZUL_ACCEPTED;
+}
+
+static uint32_t look_at_configuration(const struct lender *lent) {
+    uint8_t made[512], again[41];
+    size_t n = some_configuration(made, sizeof made);
+    uint16_t authentication = (uint16_t)(once_in(4) ? below(5) : 3);
+    uint8_t *o = lend(lent, n, once_in(2));
+    struct korvezul_configuration_read r, back;
+    struct met m;
+    memset(&m, 0, sizeof m);
+    memcpy(o, made, n);
+    at_fault = NULL;
+    r = korvezul_read_configuration(o, n, authentication);
+    walk(made, 0, n, 3, authentication, &m);
+    must(r.answer == answer_of(&m, authentication), "a configuration is answered otherwise");
+    must(memcmp(o, made, n) == 0, "octets that were lent to be read change");
+    if (r.answer != 0) {
+        must(r.discriminator == 0 && r.period == 0, "numbers beside a refusal");
+        return r.answer;
+    }
+    must(r.discriminator == m.discriminator && r.period == m.period, "a configuration reads to other numbers");
+    memset(again, 0xee, sizeof again);
+    must(korvezul_write_configuration(again, 40, r.discriminator, r.period) == 0 && again[40] == 0xee,
+         "a configuration that was read is not written");
+    back = korvezul_read_configuration(again, 40, authentication);
+    must(memcmp(&back, &r, sizeof r) == 0, "a configuration reads back to something else");
+    return 0;
+}
+
 /* A table that is lent: any bytes, or one that calls made with a few bytes damaged. */
 static void some_table(const struct table *base, struct korvezul_session *row, size_t size,
                        struct korvezul_head *head) {
@@ -703,7 +820,7 @@ static void print_counts(uint64_t counts[KINDS][27]) {
 static int at_random(double seconds) {
     struct lender rows = a_lender(), heads = a_lender(), lent = a_lender();
     static struct table base;
-    static uint64_t counts[KINDS][27], messages;
+    static uint64_t counts[KINDS][27], messages, configurations[27];
     clock_t start = clock();
     for (; (double)(clock() - start) / CLOCKS_PER_SEC < seconds; messages++) {
         size_t n = once_in(25) ? below(KORVEZUL_RECORDS + 3) : KORVEZUL_RECORDS, size = n * sizeof *base.row;
@@ -723,8 +840,14 @@ static int at_random(double seconds) {
         counts[c.kind][tried(row, n, head, &c)]++;
         look_at_message(&lent);
         look_at_fields();
+        configurations[look_at_configuration(&lent)]++;
     }
     print_counts(counts);
+    printf("configurations:");
+    for (int i = 0; i < 27; i++)
+        if (configurations[i] != 0)
+            printf(" %d x%" PRIu64, i, configurations[i]);
+    printf("\n");
     printf("messages: %" PRIu64 "\n", messages);
     return 0;
 }
