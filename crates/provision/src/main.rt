@@ -1,0 +1,42 @@
+// What the provisioning people ask: LSP Ping records from standard input, the line of the sessions file
+// that they give to standard output. What a record does not carry comes from the arguments.
+mod input;
+mod line;
+mod words;
+
+use libc::STDOUT_FILENO;
+
+// The text, in one write or several; a write that fails is told as a read is.
+fn write_text(out: &[u8], n: usize) {
+    if !io::write_all(STDOUT_FILENO, pump::part(out, 0, n)) {
+        syscall::is_again(b"provision", true, os::errno(), 0);
+    }
+}
+
+// One octet more than a list of entries may have.
+fn answer(w: words::Words, out: &mut [u8]) -> usize {
+    let mut buf = [0u8; 131_073];
+    let i = input::read_all(&mut buf);
+    if !i.whole {
+        return 0;
+    }
+    let have = i.have;
+    if buf.len() <= have {
+        return line::put_too_long(out);
+    }
+    let list = pump::part(&buf, 0, have);
+    let a = configuration::read_configuration(list, w.authentication);
+    line::put_answer(out, w, a)
+}
+
+fn main() {
+    let mut out = [0u8; 4_096];
+    let w = words::all_words();
+    if w.good {
+        let n = answer(w, &mut out);
+        write_text(&out, n);
+    } else {
+        let n = line::put_usage(&mut out);
+        write_text(&out, n);
+    }
+}
