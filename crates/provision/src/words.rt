@@ -30,7 +30,8 @@ pub fn does_begin(w: &[u8], front: &[u8]) -> bool {
     true
 }
 
-// A word that can stand in a line of the sessions file: no blank, no control character, no comment.
+// A word that can stand in a line of the sessions file: not empty, no blank, no control character, no
+// comment.
 fn is_plain(w: &[u8]) -> bool {
     let mut i: usize = 0;
     while i < w.len() {
@@ -43,7 +44,8 @@ fn is_plain(w: &[u8]) -> bool {
         }
         i += 1;
     }
-    get_u8(w, 0) != b'#'
+    let first = get_u8(w, 0);
+    octets::both(first != 0, first != b'#')
 }
 
 // Whether a word has a sign of equality: then it is no name.
