@@ -2,16 +2,10 @@
 // that they give to standard output. What a record does not carry comes from the arguments.
 mod input;
 mod line;
+mod output;
 mod words;
 
-use libc::STDOUT_FILENO;
-
-// The text, in one write or several; a write that fails is told as a read is.
-fn write_text(out: &[u8], n: usize) {
-    if !io::write_all(STDOUT_FILENO, pump::part(out, 0, n)) {
-        syscall::is_again(b"provision", true, os::errno(), 0);
-    }
-}
+use output::write_text;
 
 // One octet more than a list of entries may have.
 fn answer(w: words::Words, out: &mut [u8]) -> usize {
