@@ -4,8 +4,8 @@
 use std::mem::{align_of, offset_of, size_of};
 
 pub const RECORDS: usize = 64;
-/// The version of the header that these declarations follow, 5.0.0.
-pub const VERSION: u32 = 0x050000;
+/// The version of the header that these declarations follow, 5.1.0.
+pub const VERSION: u32 = 0x050100;
 /// The modes of a session.
 pub const COORDINATED: u8 = 0;
 pub const SOURCE: u8 = 1;

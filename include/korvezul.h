@@ -29,11 +29,11 @@
 extern "C" {
 #endif
 
-/* The version of this header: 0x050000 is 5.0.0. korvezul_version() is the archive's; another major
+/* The version of this header: 0x050100 is 5.1.0. korvezul_version() is the archive's; another major
  * number is another layout or another meaning, and the two must agree in it. 5: the settings have a mode,
- * in an octet that was nobody's before. */
+ * in an octet that was nobody's before; 5.1: configurations are read and written. */
 #define KORVEZUL_VERSION_MAJOR 5
-#define KORVEZUL_VERSION_MINOR 0
+#define KORVEZUL_VERSION_MINOR 1
 #define KORVEZUL_VERSION_PATCH 0
 #define KORVEZUL_VERSION \
     (KORVEZUL_VERSION_MAJOR * 0x10000 + KORVEZUL_VERSION_MINOR * 0x100 + KORVEZUL_VERSION_PATCH)

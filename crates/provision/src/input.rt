@@ -41,7 +41,7 @@ fn read_on(have: usize, buf: &mut [u8]) -> Input {
 
 // Read by read, until the input or the buffer ends or a read fails. The number of reads is bounded by
 // one that no run uses up.
-pub fn read_all(buf: &mut [u8]) -> Input {
+pub(crate) fn read_all(buf: &mut [u8]) -> Input {
     let mut i = reached(0, true, false);
     let mut turns = u64::MAX;
     while turns > 0 && i.go {

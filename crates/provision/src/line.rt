@@ -124,18 +124,18 @@ fn put_refused(out: &mut [u8], n: u32, authentication: u16) -> usize {
     put_reason(out, c, n, authentication)
 }
 
-pub fn put_answer(out: &mut [u8], w: Words, a: ConfigurationAnswer) -> usize {
+pub(crate) fn put_answer(out: &mut [u8], w: Words, a: ConfigurationAnswer) -> usize {
     match a {
         ConfigurationAnswer::Read(discriminator, period) => put_read(out, w, discriminator, period),
         ConfigurationAnswer::Refused(n) => put_refused(out, n, w.authentication),
     }
 }
 
-pub fn put_too_long(out: &mut [u8]) -> usize {
+pub(crate) fn put_too_long(out: &mut [u8]) -> usize {
     put_words(out, 0, b"# not read: more than 131072 octets\n")
 }
 
-pub fn put_usage(out: &mut [u8]) -> usize {
+pub(crate) fn put_usage(out: &mut [u8]) -> usize {
     let a = put_words(
         &mut *out,
         0,

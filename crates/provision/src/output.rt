@@ -37,7 +37,7 @@ fn write_on(from: usize, to: usize, out: &[u8]) -> Written {
 }
 
 // Write by write, until all is written or a write fails.
-pub fn write_text(out: &[u8], to: usize) {
+pub(crate) fn write_text(out: &[u8], to: usize) {
     let mut from: usize = 0;
     let mut go = 0 < to;
     let mut turns = u64::MAX;

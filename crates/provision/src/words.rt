@@ -19,7 +19,7 @@ pub struct Small {
     pub good: bool,
 }
 
-pub fn does_begin(w: &[u8], front: &[u8]) -> bool {
+pub(crate) fn does_begin(w: &[u8], front: &[u8]) -> bool {
     let mut i: usize = 0;
     while i < front.len() {
         if get_u8(w, i) != get_u8(front, i) {
@@ -166,7 +166,7 @@ fn take_argument(w: Words, i: usize) -> Words {
 }
 
 // All arguments behind the program's name, no more than 16.
-pub fn all_words() -> Words {
+pub(crate) fn all_words() -> Words {
     let mut w = no_words();
     let count = os::arg_count();
     w.good = count <= 17;
