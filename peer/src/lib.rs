@@ -26,6 +26,7 @@ pub mod refusal;
 pub mod session;
 pub mod settings;
 pub mod sound;
+pub mod spacing;
 pub mod table;
 pub mod watch;
 pub mod why;

@@ -1,14 +1,15 @@
 //! Command line of the second implementation.
 
 use peer::why::question::{self, Question};
-use peer::{assemble, check, cover, list, load, make, morning, own, watch, why};
+use peer::{assemble, check, cover, list, load, make, morning, own, spacing, watch, why};
 use std::io::{self, BufReader, BufWriter, Write};
 use std::path::Path;
 use std::process::ExitCode;
 
 const USAGE: &str = "usage: peer watch [--own-table] < capture
        peer why LABEL THING [if=NODE/INTERFACE] [global=ID] [upto=RECORD] < capture
-       peer make [--ties] SEED > capture
+       peer spacing LABEL < capture
+       peer make [--ties|--spacing] SEED > capture
        peer assemble TEXT > capture
        peer lists FOLDER
        peer spell LIST > list
@@ -16,6 +17,7 @@ const USAGE: &str = "usage: peer watch [--own-table] < capture
        peer cells LIST...
        peer check N [--program PATH]
        peer check-why N [--program PATH]
+       peer check-spacing N [--program PATH]
        peer cover N
        peer morning > TEXT
        peer load one|many|mixed|full COUNT > capture";
@@ -44,12 +46,17 @@ fn run(words: &[&str]) -> io::Result<ExitCode> {
         }
         ["watch", "--own-table"] => print(|output| own::watch(io::stdin().lock(), output)),
         ["why", question @ ..] => answer(question),
+        ["spacing", words @ ..] => space(words),
         ["make", seed] => {
             let capture = make::capture(number(seed)?);
             print(|output| output.write_all(&capture))
         }
         ["make", "--ties", seed] => {
             let capture = make::tied(number(seed)?);
+            print(|output| output.write_all(&capture))
+        }
+        ["make", "--spacing", seed] => {
+            let capture = make::spaced(number(seed)?);
             print(|output| output.write_all(&capture))
         }
         ["assemble", path] => {
@@ -84,6 +91,15 @@ fn run(words: &[&str]) -> io::Result<ExitCode> {
         ["check-why", count, "--program", path] => {
             let count = number(count)?;
             let asked = why::check::check(count, Path::new(path))?;
+            Ok(tell(count, "questions", asked))
+        }
+        ["check-spacing", count] => {
+            let count = number(count)?;
+            print(|output| spacing::check::cover(count, output))
+        }
+        ["check-spacing", count, "--program", path] => {
+            let count = number(count)?;
+            let asked = spacing::check::check(count, Path::new(path))?;
             Ok(tell(count, "questions", asked))
         }
         ["cover", count] => {
@@ -121,6 +137,20 @@ fn answer(words: &[&str]) -> io::Result<ExitCode> {
         }
         None => {
             println!("{}", question::USAGE);
+            Ok(ExitCode::from(2))
+        }
+    }
+}
+
+/// Says how late the CCs of a label came; words that are no label get the usage.
+fn space(words: &[&str]) -> io::Result<ExitCode> {
+    match spacing::label_of(words) {
+        Some(label) => {
+            let input = BufReader::with_capacity(BUFFER, io::stdin().lock());
+            print(|output| spacing::spacing(label, input, output))
+        }
+        None => {
+            println!("{}", spacing::USAGE);
             Ok(ExitCode::from(2))
         }
     }

@@ -7,6 +7,7 @@ mod ending;
 mod readings;
 mod scenarios;
 mod sequences;
+mod spacings;
 mod ties;
 
 use crate::capture::{Kind, Record, HEADER};
@@ -90,6 +91,25 @@ pub fn tied(seed: u64) -> Vec<u8> {
         maker.next_tie();
     }
     maker.leave_standing();
+    maker.end();
+    maker.capture
+}
+
+/// The capture for a seed in which CCs come early, late, together and far apart.
+pub fn spaced(seed: u64) -> Vec<u8> {
+    let mut maker = Maker::with_spacings(seed);
+    if maker.random.chance(2) && !maker.spoil_header() {
+        return maker.capture;
+    }
+    maker.open_at_first();
+    let target = maker.random.between(10, 120);
+    while maker.records < target {
+        maker.next_spacing();
+    }
+    // What comes behind a leap may add to the sizes, so at times it comes last.
+    if maker.random.chance(30) {
+        maker.leap();
+    }
     maker.end();
     maker.capture
 }
