@@ -9,7 +9,7 @@ pub const USAGE: &str = "usage: desk import TAP SESSIONS > capture
        desk export CAPTURE > pcapng
        desk text CAPTURE
        desk assemble TEXT > capture
-       desk events CAPTURE [--label L] [--from T] [--to T] [--json]
+       desk events CAPTURE [--label L] [--from T] [--to T] [--json] [--spacing]
        desk timeline CAPTURE > page.html
        desk case CAPTURE LABEL --from T --to T > page.html
 Each command says more with --help.

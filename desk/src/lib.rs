@@ -9,6 +9,7 @@ pub mod import;
 pub mod programs;
 pub mod sessions;
 pub mod sha256;
+pub mod spacing;
 pub mod tap;
 pub mod text;
 pub mod timeline;

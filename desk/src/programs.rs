@@ -5,12 +5,17 @@ use std::io::{Read, Write};
 use std::path::PathBuf;
 use std::process::{Command, Stdio};
 
-/// Where `watch` and `why` are: in the folder that KORVEZUL_BIN names, else `target/bin` of the
+/// Where `watch`, `why` and `spacing` are: in the folder that KORVEZUL_BIN names, else `target/bin` of the
 /// folder in which `desk` is run.
 pub fn program(name: &str) -> PathBuf {
     let folder =
         std::env::var_os("KORVEZUL_BIN").map_or_else(|| PathBuf::from("target/bin"), PathBuf::from);
     folder.join(name)
+}
+
+/// Whether there is such a program at all.
+pub fn is_there(name: &str) -> bool {
+    program(name).exists()
 }
 
 /// What a program writes for an input: fed by one thread and read by another, so that neither waits
@@ -25,7 +30,7 @@ pub fn run(name: &str, words: &[&str], input: &[u8]) -> Result<Vec<u8>, Failure>
         .spawn()
         .map_err(|error| {
             Failure::new(format!(
-                "cannot run {}: {error} (KORVEZUL_BIN names the folder of watch and why)",
+                "cannot run {}: {error} (KORVEZUL_BIN names the folder of watch, why and spacing)",
                 path.display()
             ))
         })?;

@@ -11,6 +11,9 @@ use peer::{load, make};
 use std::collections::BTreeSet;
 use std::sync::Once;
 
+/// The cells of a row of the table of spacings, which is of no event.
+const SPACING_CELLS: usize = 7;
+
 fn morning() -> String {
     let path = package().join("../crates/questions/data/morning.capture");
     path.to_str().expect("UTF-8").to_string()
@@ -98,7 +101,7 @@ fn events_of(capture: &[u8]) -> Vec<Event> {
 fn has_each_event(name: &str, capture: &[u8], page: &str) -> usize {
     let rows: Vec<_> = rows(page)
         .into_iter()
-        .filter(|row| row[0].starts_with("label "))
+        .filter(|row| row[0].starts_with("label ") && row.len() != SPACING_CELLS)
         .collect();
     let (mut begun, mut open) = (0, BTreeSet::new());
     let events = events_of(capture);

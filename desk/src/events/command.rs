@@ -3,9 +3,11 @@
 use super::clock::Epoch;
 use super::{causes, find, words, Damage, Ends, Event, Options};
 use crate::cli::{self, Done, Failure, Words};
+use crate::programs;
+use crate::spacing::{self, Answer};
 use std::io::{self, BufWriter, IsTerminal, StdoutLock, Write};
 
-const HELP: &str = "usage: desk events CAPTURE [--label L] [--from T] [--to T] [--json] [--epoch TIME] [--no-causes | --causes all]
+const HELP: &str = "usage: desk events CAPTURE [--label L] [--from T] [--to T] [--json] [--epoch TIME] [--no-causes | --causes all] [--spacing]
 
 Prints each change of a circuit, one to a line and in order: opened, closed, state, loss, alarm,
 held-back alarm, crossing and remote defect, with its exact reading, also where no record stands. A
@@ -21,17 +23,21 @@ is said of readings behind the capture's last one.
                    shown as a time of day too
   --no-causes      does not ask `why`
   --causes all     asks `why` as often as there are causes; otherwise 2,000 times at most
+  --spacing        behind the events a line for each circuit on the spacing of its CCs over the whole capture, as
+                   `spacing` answers: over pairs of heard CCs, how much later than a period the later one came, in
+                   microseconds (less than 0: early); number of pairs, least, greatest, mean, sum of sizes
 ";
 
 pub fn run(given: &[String]) -> Done {
     let valued = ["--label", "--from", "--to", "--epoch", "--causes"];
-    let given = Words::of(given, &valued, &["--json", "--no-causes"])?;
+    let given = Words::of(given, &valued, &["--json", "--no-causes", "--spacing"])?;
     if given.has("--help") {
         return cli::say(HELP);
     }
     let [path] = given.plain(["CAPTURE"])?;
     let options = options(&given)?;
     let most = most_causes(&given)?;
+    let spacing = spacing_line(&given)?;
     let epoch = epoch(&given)?;
     let line = if given.has("--json") {
         words::json
@@ -42,6 +48,9 @@ pub fn run(given: &[String]) -> Done {
     let mut paper = Paper::new();
     let mut each = |event: Event| paper.put(&line(&event, epoch.as_ref()));
     let ends = find::find(&capture, &options, most, &mut each)?;
+    if let Some(line) = spacing {
+        put_spacing(&mut paper, &capture, options.label, line)?;
+    }
     paper.output.flush()?;
     tell_ends(path, &ends)
 }
@@ -110,6 +119,42 @@ fn most_causes(given: &Words) -> Result<u64, Failure> {
         Some("all") => Ok(u64::MAX),
         Some(word) => Err(Failure::usage(format!("--causes: `all`, and not `{word}`"))),
     }
+}
+
+/// How a circuit's spacing is said, if it is wanted.
+fn spacing_line(given: &Words) -> Result<Option<fn(u32, &Answer) -> String>, Failure> {
+    if !given.has("--spacing") {
+        return Ok(None);
+    }
+    if given.has("--from") || given.has("--to") {
+        let wrong = "`--spacing` is of the whole capture, without `--from` and `--to`";
+        return Err(Failure::usage(wrong));
+    }
+    if !programs::is_there(spacing::PROGRAM) {
+        let program = programs::program(spacing::PROGRAM);
+        return Err(Failure::new(format!(
+            "no spacing can be shown: {} is not there (KORVEZUL_BIN names the folder of watch, why and spacing)",
+            program.display()
+        )));
+    }
+    Ok(Some(match given.has("--json") {
+        true => spacing::json,
+        false => spacing::text,
+    }))
+}
+
+/// A line for each circuit.
+fn put_spacing(
+    paper: &mut Paper,
+    capture: &[u8],
+    label: Option<u32>,
+    line: fn(u32, &Answer) -> String,
+) -> Done {
+    for circuit in spacing::circuits(capture, label)? {
+        let answer = Answer::of(&circuit)?;
+        paper.put(&line(circuit.label, &answer))?;
+    }
+    Ok(())
 }
 
 fn epoch(given: &Words) -> Result<Option<Epoch>, Failure> {

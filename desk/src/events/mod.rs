@@ -2,7 +2,7 @@
 //! decided here: what changed is read off reports of `watch`, and causes are
 //! answers of `why`.
 
-mod accepted;
+pub(crate) mod accepted;
 mod causes;
 mod changes;
 pub mod clock;

@@ -72,7 +72,7 @@ fn start(name: &str, words: &[String]) -> Result<(Child, Pipes), Failure> {
     let told = |error: io::Error| {
         let path = path.display();
         Failure::new(format!(
-            "cannot run {path}: {error} (KORVEZUL_BIN names the folder of watch and why)"
+            "cannot run {path}: {error} (KORVEZUL_BIN names the folder of watch, why and spacing)"
         ))
     };
     let mut child = Command::new(&path)

@@ -27,7 +27,7 @@ impl Answers {
             .spawn()
             .map_err(|error| {
                 let path = path.display();
-                let hint = "KORVEZUL_BIN names the folder of watch and why";
+                let hint = "KORVEZUL_BIN names the folder of watch, why and spacing";
                 Failure::new(format!("cannot run {path}: {error} ({hint})"))
             })?;
         let stdout = child

@@ -73,6 +73,9 @@ const TICKS: [(Tick, (&str, &str), &str); 3] = [
 const ROWS: &str = "Rows of a lane from above: state, loss, alarm or alarm held back, blocked traffic, remote defect, messages. \
     A column has one tick at most, the most telling of its messages.";
 
+const SPACING: &str = "Below a circuit's name: the spacing of its CCs, a bar for the pairs that came so much early (to the left) or late \
+    (to the right) of a period; in the middle those on time, from there to each side 1 µs, 10 µs, 100 µs, 1 ms, 10 ms, 100 ms, 1 s and more.";
+
 pub fn write(html: &mut Html) {
     html.block("ul", &[("class", "legend")], |html| {
         for (thing, words) in BARS {
@@ -85,6 +88,7 @@ pub fn write(html: &mut Html) {
         }
     });
     html.line("p", &[], ROWS);
+    html.line("p", &[], SPACING);
 }
 
 fn sample(html: &mut Html, class: &str, across: (&str, &str), down: (&str, &str), words: &str) {

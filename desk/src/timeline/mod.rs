@@ -8,12 +8,15 @@ mod lanes;
 mod legend;
 mod page;
 mod scale;
+mod spacings;
 pub mod stretches;
 mod tables;
 
 use crate::cli::{self, Done, Failure, Words};
 use crate::events::{Damage, Ends};
+use crate::programs;
 use crate::sessions::{self, Session};
+use crate::spacing;
 use clock::Clock;
 use gather::{Gathered, Heard};
 use page::Picture;
@@ -23,7 +26,8 @@ use std::path::Path;
 const HELP: &str = "usage: desk timeline CAPTURE [--sessions FILE] [--epoch TIME] > page.html
 One page of HTML, which needs no script and no network: a lane for each circuit with its state, loss,
 alarm, held-back alarm, blocked traffic and remote defect as bars and its messages as ticks, and tables
-with the same in words. What it shows is what watch and why answer.
+with the same in words; beside its name a histogram of the spacing of its CCs: early ones to the left,
+late ones to the right, by powers of ten. What it shows is what watch, why and spacing answer.
   --sessions FILE    names of the circuits (see desk import)
   --epoch TIME       the wall clock at reading 0, in seconds since 1970 or as 2026-11-16T05:40:00Z
 ";
@@ -40,6 +44,13 @@ pub fn run(words: &[String]) -> Done {
     let picture = picture(&capture, file_name(path), &sessions, clock)
         .map_err(|failure| Failure::new(format!("{path}: {failure}")))?;
     cli::say(&page::write(&picture))?;
+    if picture.spacings.is_none() {
+        let program = programs::program(spacing::PROGRAM);
+        eprintln!(
+            "desk timeline: no spacing is shown: {} is not there",
+            program.display()
+        );
+    }
     match picture.wrong {
         Some(wrong) => Err(Failure::new(format!("{path}: {wrong}"))),
         None => Ok(()),
@@ -107,6 +118,7 @@ fn picture(
         lanes,
         stretches,
         left_out,
+        spacings: spacings::ask(capture)?,
         records: ends.records,
         elsewhere,
         without_cause,

@@ -4,6 +4,7 @@ use super::clock::{self, Clock};
 use super::draw::{self, Layout};
 use super::lanes::Lane;
 use super::scale::Scale;
+use super::spacings::{self, Spacings};
 use super::stretches::Stretch;
 use super::{legend, tables};
 use crate::html::{self, Html};
@@ -21,6 +22,7 @@ pub struct Picture {
     pub stretches: Vec<Stretch>,
     /// Stretches that the tables leave out.
     pub left_out: u64,
+    pub spacings: Spacings,
     pub records: u64,
     /// Messages on labels that have no lane.
     pub elsewhere: u64,
@@ -42,6 +44,8 @@ pub fn write(picture: &Picture) -> String {
         lanes(html, picture);
         html.line("h2", &[], "Losses, alarms, blocked traffic");
         tables::defects(html, picture);
+        html.line("h2", &[], "Spacing of CCs");
+        spacings::table(html, picture);
         html.line("h2", &[], "States");
         tables::states(html, picture);
     })
@@ -69,7 +73,7 @@ fn facts(html: &mut Html, picture: &Picture) {
         );
         html.line("p", &[], &words);
     }
-    html.line("p", &[], "All that is shown was answered by the programs watch and why. Hover over a bar to read its cause and its end; the tables have them too.");
+    html.line("p", &[], "All that is shown was answered by the programs watch, why and spacing. Hover over a bar to read its cause and its end; the tables have them too.");
 }
 
 fn lanes(html: &mut Html, picture: &Picture) {
@@ -81,9 +85,12 @@ fn lanes(html: &mut Html, picture: &Picture) {
     axis(html, picture, &layout, "lane head");
     for lane in &picture.lanes {
         html.block("div", &[("class", "lane")], |html| {
-            html.element("h3", &[], |html| {
-                html.words(&lane.name);
-                html.element("span", &[], |html| html.words(&under_name(lane)));
+            html.block("div", &[], |html| {
+                html.element("h3", &[], |html| {
+                    html.words(&lane.name);
+                    html.element("span", &[], |html| html.words(&under_name(lane)));
+                });
+                spacings::histogram(html, picture, lane.label);
             });
             draw::lane(html, lane, &layout, &picture.scale, &picture.clock);
         });

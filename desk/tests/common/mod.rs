@@ -3,6 +3,7 @@
 
 use std::path::{Path, PathBuf};
 use std::process::{Command, Output};
+use std::sync::OnceLock;
 
 /// The folder of this package.
 pub fn package() -> &'static Path {
@@ -10,16 +11,60 @@ pub fn package() -> &'static Path {
 }
 
 /// Where `watch` and `why` are: in the folder that KORVEZUL_BIN names, else in that of the gate.
-pub fn programs() -> PathBuf {
+fn proved() -> PathBuf {
     let named = std::env::var_os("KORVEZUL_BIN").map(PathBuf::from);
     named.unwrap_or_else(|| package().join("../target/bin"))
 }
 
+/// That folder; or one with links to its programs and the stand-in for `spacing`, where it has none.
+pub fn programs() -> PathBuf {
+    static FOLDER: OnceLock<PathBuf> = OnceLock::new();
+    let folder = FOLDER.get_or_init(|| match proved().join("spacing").exists() {
+        true => proved(),
+        false => with_stand_in("programs"),
+    });
+    folder.clone()
+}
+
+/// A folder with links to the proved programs, and to the stand-in for `spacing`.
+fn with_stand_in(name: &str) -> PathBuf {
+    let desk = Path::new(env!("CARGO_BIN_EXE_desk"));
+    let stand_in = desk.parent().expect("a folder").join("examples/spacing");
+    assert!(
+        stand_in.exists(),
+        "no stand-in: cargo test without --test builds it, or cargo build --examples"
+    );
+    let folder = folder_without_spacing(name);
+    link(&stand_in, &folder.join("spacing"));
+    folder
+}
+
+/// A folder with links to `watch` and `why` alone.
+pub fn folder_without_spacing(name: &str) -> PathBuf {
+    let folder = Path::new(env!("CARGO_TARGET_TMPDIR")).join(name);
+    let _ = std::fs::remove_dir_all(&folder);
+    std::fs::create_dir_all(&folder).expect("a folder");
+    let proved = std::fs::canonicalize(proved()).expect("the folder of the programs");
+    for program in ["watch", "why"] {
+        link(&proved.join(program), &folder.join(program));
+    }
+    folder
+}
+
+fn link(program: &Path, at: &Path) {
+    std::os::unix::fs::symlink(program, at).expect("a link");
+}
+
 /// Runs `desk`.
 pub fn desk(words: &[&str]) -> Output {
+    desk_with(&programs(), words)
+}
+
+/// Runs `desk` with the programs of a folder.
+pub fn desk_with(programs: &Path, words: &[&str]) -> Output {
     Command::new(env!("CARGO_BIN_EXE_desk"))
         .args(words)
-        .env("KORVEZUL_BIN", programs())
+        .env("KORVEZUL_BIN", programs)
         .output()
         .expect("desk runs")
 }
