@@ -76,7 +76,8 @@ const ROWS: &str = "Rows of a lane from above: state, loss, alarm or alarm held 
 const SPACING: &str = "Below a circuit's name: the spacing of its CCs, a bar for the pairs that came so much early (to the left) or late \
     (to the right) of a period; in the middle those on time, from there to each side 1 µs, 10 µs, 100 µs, 1 ms, 10 ms, 100 ms, 1 s and more.";
 
-pub fn write(html: &mut Html) {
+/// With what the histograms mean, where there are any.
+pub fn write(html: &mut Html, spacings: bool) {
     html.block("ul", &[("class", "legend")], |html| {
         for (thing, words) in BARS {
             let thin = thing == Some(Thing::Loss);
@@ -88,7 +89,9 @@ pub fn write(html: &mut Html) {
         }
     });
     html.line("p", &[], ROWS);
-    html.line("p", &[], SPACING);
+    if spacings {
+        html.line("p", &[], SPACING);
+    }
 }
 
 fn sample(html: &mut Html, class: &str, across: (&str, &str), down: (&str, &str), words: &str) {

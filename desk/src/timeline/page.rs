@@ -39,7 +39,7 @@ pub fn write(picture: &Picture) -> String {
         html.line("h1", &[], &title);
         facts(html, picture);
         html.line("h2", &[], "Legend");
-        legend::write(html);
+        legend::write(html, picture.spacings.is_some());
         html.line("h2", &[], "Circuits");
         lanes(html, picture);
         html.line("h2", &[], "Losses, alarms, blocked traffic");
@@ -73,7 +73,12 @@ fn facts(html: &mut Html, picture: &Picture) {
         );
         html.line("p", &[], &words);
     }
-    html.line("p", &[], "All that is shown was answered by the programs watch, why and spacing. Hover over a bar to read its cause and its end; the tables have them too.");
+    let programs = match picture.spacings {
+        Some(_) => "watch, why and spacing",
+        None => "watch and why",
+    };
+    let words = format!("All that is shown was answered by the programs {programs}. Hover over a bar to read its cause and its end; the tables have them too.");
+    html.line("p", &[], &words);
 }
 
 fn lanes(html: &mut Html, picture: &Picture) {
