@@ -1,6 +1,6 @@
-//! For the people at the desk. Every answer, report and cause shown here comes
-//! from the proved programs `watch` and `why`, which are run; this program
-//! chooses what to ask and how to show it.
+//! For the people at the desk. Every answer, report, cause and spacing shown
+//! here comes from the proved programs `watch`, `why` and `spacing`, which are
+//! run; this program chooses what to ask and how to show it.
 
 use desk::{case, cli, events, export, import, text, timeline};
 use std::process::ExitCode;

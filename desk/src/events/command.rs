@@ -121,8 +121,11 @@ fn most_causes(given: &Words) -> Result<u64, Failure> {
     }
 }
 
+/// The line on a label's spacing, as text or as JSON.
+type SpacingLine = fn(u32, &Answer) -> String;
+
 /// How a circuit's spacing is said, if it is wanted.
-fn spacing_line(given: &Words) -> Result<Option<fn(u32, &Answer) -> String>, Failure> {
+fn spacing_line(given: &Words) -> Result<Option<SpacingLine>, Failure> {
     if !given.has("--spacing") {
         return Ok(None);
     }
@@ -148,7 +151,7 @@ fn put_spacing(
     paper: &mut Paper,
     capture: &[u8],
     label: Option<u32>,
-    line: fn(u32, &Answer) -> String,
+    line: SpacingLine,
 ) -> Done {
     for circuit in spacing::circuits(capture, label)? {
         let answer = Answer::of(&circuit)?;
