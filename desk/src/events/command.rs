@@ -147,12 +147,7 @@ fn spacing_line(given: &Words) -> Result<Option<SpacingLine>, Failure> {
 }
 
 /// A line for each circuit.
-fn put_spacing(
-    paper: &mut Paper,
-    capture: &[u8],
-    label: Option<u32>,
-    line: SpacingLine,
-) -> Done {
+fn put_spacing(paper: &mut Paper, capture: &[u8], label: Option<u32>, line: SpacingLine) -> Done {
     for circuit in spacing::circuits(capture, label)? {
         let answer = Answer::of(&circuit)?;
         paper.put(&line(circuit.label, &answer))?;
