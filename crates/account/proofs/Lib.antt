@@ -1,0 +1,4 @@
+pub mod Integers
+pub mod Kept
+pub mod Made
+pub mod Joined
