@@ -28,7 +28,7 @@ use Rattle.cause.specs.Noting.{actNoted, callNoted, actKept, callKept}
 use Rattle.cause.specs.Records.{marksOnly, ownNoted, recordNoted}
 
 -- an accepted act is on an open label
-act-found : (clock : ℕ) (o : Option Session) (l : ℕ) (b : Act) → isAccepted (actAnswer clock o l b) ≡ true → (r : Session) × (o ≡ some r)
+pub act-found : (clock : ℕ) (o : Option Session) (l : ℕ) (b : Act) → isAccepted (actAnswer clock o l b) ≡ true → (r : Session) × (o ≡ some r)
 unfolding actAnswer
 act-found clock o l (Close u) y = found-passed clock u o (eqb-true _ 0 y) .1
 act-found clock o l (Lock u) y = found-passed clock u o (eqb-true _ 0 y) .1
@@ -46,7 +46,7 @@ act-found clock none l (WriteCv b) y = no-way y refl
 act-found clock (some r) l (WriteCv b) y = (r, refl)
 
 -- a record that is found is the one at its label's place
-at-place : (l on : ℕ) (row : List Session) (r : Session) → find l (opens on row) ≡ some r → getD row (placeOf l on row) absent ≡ r
+pub at-place : (l on : ℕ) (row : List Session) (r : Session) → find l (opens on row) ≡ some r → getD row (placeOf l on row) absent ≡ r
 at-place l on row r e = go (ltb (placeOf l on row) (length row)) (place-found l on row absent)
   where
     go : (b : Bool) → find l (opens on row) ≡ cond b (some (getD row (placeOf l on row) absent)) none → getD row (placeOf l on row) absent ≡ r

@@ -1,0 +1,4 @@
+pub mod Spacing
+pub mod Records
+pub mod Pacing
+pub mod Worked
