@@ -34,8 +34,10 @@ fn folder() -> PathBuf {
     let folder = Path::new(env!("CARGO_TARGET_TMPDIR")).join("readme");
     let _ = std::fs::remove_dir_all(&folder);
     std::fs::create_dir_all(&folder).expect("a folder");
-    let crates = package().join("../crates");
-    std::os::unix::fs::symlink(crates, folder.join("crates")).expect("a link");
+    for part in ["crates", "peer"] {
+        let there = package().join("..").join(part);
+        std::os::unix::fs::symlink(there, folder.join(part)).expect("a link");
+    }
     folder
 }
 
