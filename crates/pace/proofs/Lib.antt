@@ -1,0 +1,5 @@
+pub mod PacePlains
+pub mod Turns
+pub mod Ways
+pub mod Paces
+pub mod PacedRow
