@@ -1,0 +1,21 @@
+-- A table by value that is asked about the spacing of a label: empty, before the first record of a capture.
+-- Assumes nothing.
+use Prim.Native.Nat.{ℕ}
+use lib.ListN.{replicate}
+use Rattle.table.specs.Table.{absent}
+use Rattle.interval.specs.Pacing.{atRest}
+use Rattle.pace.specs.declared.asked.Asked.{Asked}
+
+-- the first record lies behind the 8 octets of the header
+unfoldable pub beginning : ℕ → ℕ → Asked
+beginning label upto =
+    record {
+      row = replicate 64 absent;
+      pacing =
+          record {
+            fed = record { head = record { clock = 0; occupied = 0 }; number = 0; used = 8; written = 0 };
+            upto = upto;
+            pace = atRest;
+            label = label;
+          };
+    }
