@@ -23,3 +23,4 @@ pub mod HeldAnswers
 pub mod Machines
 pub mod Sources
 pub mod Readings
+pub mod Orders

@@ -43,10 +43,10 @@ mep local = record { agi = noAgi; global = 7; node = 8; local = local; kind = 1;
 abbrev settings : Settings
 settings = record { own = mep 1; expected = mep 2; label = 100; discriminator = 17; period = 1000000; followlink = 0; followlock = 0; mode = 0 }
 
-abbrev opening : Call
+abbrev pub opening : Call
 opening = Open settings 0
 
-abbrev seven : ℕ → ℕ → ℕ → ℕ → ℕ → Said
+abbrev pub seven : ℕ → ℕ → ℕ → ℕ → ℕ → Said
 seven state crossing loss alarm conditions =
     reporting (record { state = state; crossing = crossing; loss = loss; alarm = alarm; rdi = 0; blocked = crossing; conditions = conditions })
 
@@ -68,7 +68,7 @@ packetIn state your =
       echo = 0;
     }
 
-abbrev cc : ℕ → ℕ → ℕ → Call
+abbrev pub cc : ℕ → ℕ → ℕ → Call
 cc state your t = On 100 (Receive (ccOctets (packetIn state your)) t)
 
 -- edge i's CC is refused by its reader, so its octets are written out: state UP, Your 0
@@ -85,7 +85,7 @@ cv state your local t = On 100 (Receive (cvOctets (packetIn state your) (mep loc
 abbrev ais : ℕ → Call
 ais t = On 100 (Receive (faultOctets (record { kind = 1; linkdown = false; removed = false; refresh = 1; interface = NoIfId; global = NoGlobalId })) t)
 
-abbrev reportNow : Call
+abbrev pub reportNow : Call
 reportNow = On 100 ReportOn
 
 -- UP at 0, last heard at 0 with multiplier 3

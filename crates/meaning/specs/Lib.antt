@@ -11,3 +11,4 @@ pub mod Demand
 pub mod Further
 pub mod HoldDown
 pub mod Machines
+pub mod Orders
