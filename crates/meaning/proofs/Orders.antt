@@ -117,8 +117,8 @@ states-alone row e cs a b p q l =
     state-ticked row e cs (Tick a ∷ Tick b ∷ []) b l (after (w .past) (Tick a) x) y (past-behind row cs (Tick a ∷ Tick b ∷ [])) q
     ∙ ap (shown b) (ticked (w .past) a x p l .1)
     ∙ sym
-      (state-ticked row e cs (Tick b ∷ []) b l (w .past) (answer (w .table) (Tick b)) (past-behind row cs (Tick b ∷ []))
-      (ticks-alone (w .table) a b p q .accepted))
+    (state-ticked row e cs (Tick b ∷ []) b l (w .past) (answer (w .table) (Tick b)) (past-behind row cs (Tick b ∷ []))
+    (ticks-alone (w .table) a b p q .accepted))
 
 -- without the premises
 

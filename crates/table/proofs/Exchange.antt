@@ -171,9 +171,10 @@ tick-alone t a b p q =
     let first = tick-passed t a p in
     let second = tick-passed (next t (Tick a)) b q in
     let clock : next t (Tick a) .clock ≡ a = ap (λ (x : Table). x .clock) (accepted-goes t (Tick a) p) ∙ clock-ticked t a in
-    let goes = tick-goes t b (first .0) (late-through (t .clock) a b (first .1) (sym (ap (λ (c : ℕ). late c b) clock) ∙ second .1)) in
-    (goes,
-    accepted-goes (next t (Tick a)) (Tick b) q
-    ∙ ap (λ (x : Table). done x (Tick b)) (accepted-goes t (Tick a) p)
-    ∙ last-tick t a b
-    ∙ sym (accepted-goes t (Tick b) goes))
+    let goes = tick-goes t b (first .0) (late-through (t .clock) a b (first .1) (sym (ap (λ (c : ℕ). late c b) clock) ∙ second .1)) in (
+      goes,
+      accepted-goes (next t (Tick a)) (Tick b) q
+          ∙ ap (λ (x : Table). done x (Tick b)) (accepted-goes t (Tick a) p)
+          ∙ last-tick t a b
+          ∙ sym (accepted-goes t (Tick b) goes),
+    )
