@@ -8,6 +8,7 @@
 pub mod assemble;
 pub mod capture;
 pub mod check;
+pub mod compare;
 pub mod cover;
 pub mod distinct;
 pub mod edges;

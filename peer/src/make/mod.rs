@@ -1,6 +1,7 @@
 //! Deterministic captures from a seed: random, but steered towards every
 //! answer, every edge and every kind of damage.
 
+mod compares;
 mod damage;
 mod draft;
 mod ending;
@@ -112,6 +113,11 @@ pub fn spaced(seed: u64) -> Vec<u8> {
     }
     maker.end();
     maker.capture
+}
+
+/// Two captures for a seed that differ in little, or not at all.
+pub fn compared(seed: u64) -> [Vec<u8>; 2] {
+    compares::pair(seed, &tied(seed))
 }
 
 impl Maker {

@@ -1,0 +1,34 @@
+//! The commands that make captures and texts.
+
+use super::{number, print, print_octets, usage, Done};
+use peer::{assemble, load, make, morning};
+use std::io;
+use std::process::ExitCode;
+
+pub fn run(command: &str, words: &[&str]) -> Done {
+    match (command, words) {
+        ("make", [seed]) => print_octets(&make::capture(number(seed)?)),
+        ("make", ["--ties", seed]) => print_octets(&make::tied(number(seed)?)),
+        ("make", ["--spacing", seed]) => print_octets(&make::spaced(number(seed)?)),
+        ("make", ["--compare", seed, first, second]) => {
+            let [one, other] = make::compared(number(seed)?);
+            std::fs::write(first, one)?;
+            std::fs::write(second, other)?;
+            Ok(ExitCode::SUCCESS)
+        }
+        ("assemble", [path]) => assembled(path),
+        ("morning", []) => print_octets(morning::text().as_bytes()),
+        ("load", [load, count]) => {
+            let (load, count) = (load.parse()?, number(count)?);
+            print(|output| load::load(load, count, output))
+        }
+        _ => usage(),
+    }
+}
+
+fn assembled(path: &str) -> Done {
+    let text = std::fs::read_to_string(path)?;
+    let capture = assemble::assemble(&text)
+        .map_err(|mistake| io::Error::other(format!("{path}, {mistake}")))?;
+    print_octets(&capture)
+}
