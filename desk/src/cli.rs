@@ -12,6 +12,7 @@ pub const USAGE: &str = "usage: desk import TAP SESSIONS > capture
        desk events CAPTURE [--label L] [--from T] [--to T] [--json] [--spacing]
        desk timeline CAPTURE > page.html
        desk case CAPTURE LABEL --from T --to T > page.html
+       desk compare FIRST SECOND
 Each command says more with --help.
 ";
 

@@ -2,6 +2,7 @@
 
 pub mod case;
 pub mod cli;
+pub mod compare;
 pub mod events;
 pub mod export;
 pub mod html;

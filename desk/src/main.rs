@@ -1,8 +1,8 @@
-//! For the people at the desk. Every answer, report, cause and spacing shown
-//! here comes from the proved programs `watch`, `why` and `spacing`, which are
-//! run; this program chooses what to ask and how to show it.
+//! For the people at the desk. Every answer, report, cause, spacing and
+//! difference shown here comes from the proved programs `watch`, `why`,
+//! `spacing` and `compare`, which are run; this program chooses what to ask and how to show it.
 
-use desk::{case, cli, events, export, import, text, timeline};
+use desk::{case, cli, compare, events, export, import, text, timeline};
 use std::process::ExitCode;
 
 fn main() -> ExitCode {
@@ -19,6 +19,7 @@ fn main() -> ExitCode {
         "events" => events::run(rest),
         "timeline" => timeline::run(rest),
         "case" => case::run(rest),
+        "compare" => compare::run(rest),
         "--help" | "-h" | "help" => cli::say(cli::USAGE),
         other => Err(cli::Failure::usage(format!("no command `{other}`"))),
     };

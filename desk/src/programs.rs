@@ -5,7 +5,10 @@ use std::io::{Read, Write};
 use std::path::PathBuf;
 use std::process::{Command, Stdio};
 
-/// Where `watch`, `why` and `spacing` are: in the folder that KORVEZUL_BIN names, else `target/bin` of the
+/// Said where a program cannot be run.
+pub const HINT: &str = "KORVEZUL_BIN names the folder of watch, why, spacing and compare";
+
+/// Where `watch`, `why`, `spacing` and `compare` are: in the folder that KORVEZUL_BIN names, else `target/bin` of the
 /// folder in which `desk` is run.
 pub fn program(name: &str) -> PathBuf {
     let folder =
@@ -29,10 +32,7 @@ pub fn run(name: &str, words: &[&str], input: &[u8]) -> Result<Vec<u8>, Failure>
         .stderr(Stdio::piped())
         .spawn()
         .map_err(|error| {
-            Failure::new(format!(
-                "cannot run {}: {error} (KORVEZUL_BIN names the folder of watch, why and spacing)",
-                path.display()
-            ))
+            Failure::new(format!("cannot run {}: {error} ({HINT})", path.display()))
         })?;
     let mut stdin = child.stdin.take().expect("piped");
     let mut stdout = child.stdout.take().expect("piped");

@@ -4,7 +4,7 @@
 mod common;
 mod pages;
 
-use common::{desk, desk_with, file, folder_without_spacing, package, printed, programs};
+use common::{desk, desk_with, fake, file, folder_of_two, package, printed, programs};
 use desk::spacing::{bin_words, json, text, Answer, Numbers, COUNT, MIDDLE};
 use pages::{check, rows, unescape};
 use peer::assemble::assemble;
@@ -14,7 +14,6 @@ use peer::spacing::check::labels;
 use peer::spacing::pairs::{self, Pair};
 use peer::why::history::History;
 use std::io::Write;
-use std::os::unix::fs::PermissionsExt;
 use std::path::Path;
 use std::process::{Command, Stdio};
 use std::sync::atomic::{AtomicUsize, Ordering};
@@ -235,7 +234,7 @@ fn what_does_not_fit_is_said() {
 
 #[test]
 fn without_the_program_it_is_said() {
-    let folder = folder_without_spacing("programs-without-spacing");
+    let folder = folder_of_two("programs-without-spacing");
     let path = package().join("../peer/tests/spacings/early_and_late.capture");
     let path = path.to_str().expect("UTF-8");
     let output = desk_with(&folder, &["events", path, "--spacing"]);
@@ -262,15 +261,6 @@ fn without_the_program_it_is_said() {
     assert!(output.status.success() && output.stderr.is_empty());
 }
 
-/// A folder in which `spacing` is the given line of a shell.
-fn fake(name: &str, line: &str) -> std::path::PathBuf {
-    let folder = folder_without_spacing(name);
-    let path = folder.join("spacing");
-    std::fs::write(&path, format!("#!/bin/sh\n{line}\n")).expect("a file");
-    std::fs::set_permissions(&path, PermissionsExt::from_mode(0o755)).expect("a program");
-    folder
-}
-
 #[test]
 fn a_program_that_does_not_answer_is_told_of() {
     let path = package().join("../peer/tests/spacings/early_and_late.capture");
@@ -288,7 +278,7 @@ fn a_program_that_does_not_answer_is_told_of() {
             "spacing failed: exit status: 3 no memory",
         ),
     ] {
-        let folder = fake(&format!("programs-{name}"), line);
+        let folder = fake(&format!("programs-{name}"), "spacing", line);
         for words in [&["events", path, "--spacing"][..], &["timeline", path]] {
             let output = run_when_free(&folder, words);
             let said = String::from_utf8_lossy(&output.stderr).into_owned();

@@ -136,8 +136,9 @@ fn spacing_line(given: &Words) -> Result<Option<SpacingLine>, Failure> {
     if !programs::is_there(spacing::PROGRAM) {
         let program = programs::program(spacing::PROGRAM);
         return Err(Failure::new(format!(
-            "no spacing can be shown: {} is not there (KORVEZUL_BIN names the folder of watch, why and spacing)",
-            program.display()
+            "no spacing can be shown: {} is not there ({})",
+            program.display(),
+            programs::HINT
         )));
     }
     Ok(Some(match given.has("--json") {

@@ -71,9 +71,8 @@ fn start(name: &str, words: &[String]) -> Result<(Child, Pipes), Failure> {
     let path = programs::program(name);
     let told = |error: io::Error| {
         let path = path.display();
-        Failure::new(format!(
-            "cannot run {path}: {error} (KORVEZUL_BIN names the folder of watch, why and spacing)"
-        ))
+        let hint = programs::HINT;
+        Failure::new(format!("cannot run {path}: {error} ({hint})"))
     };
     let mut child = Command::new(&path)
         .args(words)

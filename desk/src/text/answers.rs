@@ -1,7 +1,7 @@
 //! `watch`, run beside the reading of a capture, and its lines one after the other.
 
 use crate::cli::{Done, Failure};
-use crate::programs::program;
+use crate::programs::{program, HINT};
 use std::fs::File;
 use std::io::{BufRead, BufReader, Read};
 use std::process::{Child, ChildStdout, Command, Stdio};
@@ -27,8 +27,7 @@ impl Answers {
             .spawn()
             .map_err(|error| {
                 let path = path.display();
-                let hint = "KORVEZUL_BIN names the folder of watch, why and spacing";
-                Failure::new(format!("cannot run {path}: {error} ({hint})"))
+                Failure::new(format!("cannot run {path}: {error} ({HINT})"))
             })?;
         let stdout = child
             .stdout

@@ -8,9 +8,9 @@ pub mod answers;
 mod assemble;
 mod digits;
 mod messages;
-mod records;
+pub mod records;
 mod remark;
-mod words;
+pub mod words;
 mod writer;
 
 pub use assemble::run_assemble;

@@ -16,31 +16,42 @@ fn proved() -> PathBuf {
     named.unwrap_or_else(|| package().join("../target/bin"))
 }
 
-/// That folder; or one with links to its programs and the stand-in for `spacing`, where it has none.
+/// The programs for which the second program's can stand in.
+const STOOD_IN_FOR: [&str; 2] = ["spacing", "compare"];
+
+/// That folder; or one with links to its programs and stand-ins for those that it does not have.
 pub fn programs() -> PathBuf {
     static FOLDER: OnceLock<PathBuf> = OnceLock::new();
-    let folder = FOLDER.get_or_init(|| match proved().join("spacing").exists() {
+    let all = || STOOD_IN_FOR.iter().all(|name| proved().join(name).exists());
+    let folder = FOLDER.get_or_init(|| match all() {
         true => proved(),
-        false => with_stand_in("programs"),
+        false => with_stand_ins("programs"),
     });
     folder.clone()
 }
 
-/// A folder with links to the proved programs, and to the stand-in for `spacing`.
-fn with_stand_in(name: &str) -> PathBuf {
+/// A folder with links to the proved programs, and to stand-ins for those that are not there.
+fn with_stand_ins(name: &str) -> PathBuf {
     let desk = Path::new(env!("CARGO_BIN_EXE_desk"));
-    let stand_in = desk.parent().expect("a folder").join("examples/spacing");
-    assert!(
-        stand_in.exists(),
-        "no stand-in: cargo test without --test builds it, or cargo build --examples"
-    );
-    let folder = folder_without_spacing(name);
-    link(&stand_in, &folder.join("spacing"));
+    let stand_ins = desk.parent().expect("a folder").join("examples");
+    let folder = folder_of_two(name);
+    for program in STOOD_IN_FOR {
+        let proved = proved().join(program);
+        let there = match proved.exists() {
+            true => std::fs::canonicalize(proved).expect("a program"),
+            false => stand_ins.join(program),
+        };
+        assert!(
+            there.exists(),
+            "no stand-in: cargo test without --test builds it, or cargo build --examples"
+        );
+        link(&there, &folder.join(program));
+    }
     folder
 }
 
 /// A folder with links to `watch` and `why` alone.
-pub fn folder_without_spacing(name: &str) -> PathBuf {
+pub fn folder_of_two(name: &str) -> PathBuf {
     let folder = Path::new(env!("CARGO_TARGET_TMPDIR")).join(name);
     let _ = std::fs::remove_dir_all(&folder);
     std::fs::create_dir_all(&folder).expect("a folder");
@@ -48,6 +59,23 @@ pub fn folder_without_spacing(name: &str) -> PathBuf {
     for program in ["watch", "why"] {
         link(&proved.join(program), &folder.join(program));
     }
+    folder
+}
+
+/// A folder in which a program is the given line of a shell.
+pub fn fake(name: &str, program: &str, line: &str) -> PathBuf {
+    let folder = folder_of_two(name);
+    // A file that this process wrote could not be run while another test starts a program, which
+    // has all that is open here open for a moment.
+    let written = Command::new("sh")
+        .args([
+            "-c",
+            "printf '#!/bin/sh\\n%s\\n' \"$1\" >\"$0\" && chmod +x \"$0\"",
+        ])
+        .arg(folder.join(program))
+        .arg(line)
+        .status();
+    assert!(written.expect("sh runs").success());
     folder
 }
 
