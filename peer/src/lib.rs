@@ -14,6 +14,7 @@ pub mod distinct;
 pub mod edges;
 pub mod list;
 pub mod load;
+pub mod log;
 pub mod machine;
 pub mod make;
 pub mod mep_id;

@@ -55,6 +55,21 @@ pub struct Report {
     pub conditions: usize,
 }
 
+impl Report {
+    /// The seven numbers as they are printed.
+    pub fn numbers(&self) -> String {
+        let marks = [
+            self.misconnectivity,
+            self.loss,
+            self.alarm,
+            self.remote_defect,
+            self.blocked,
+        ];
+        let marks = marks.map(|mark| u8::from(mark).to_string()).join(" ");
+        format!("{} {marks} {}", self.state as u8, self.conditions)
+    }
+}
+
 /// The octets of a CC, and of a CV before the value of its MEP-ID.
 const CC_OCTETS: usize = 28;
 const CV_HEAD: usize = 32;

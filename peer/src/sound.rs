@@ -23,7 +23,8 @@ pub fn is_sound(places: &[Option<Session>], clock: u64, scratch: &mut Scratch) -
     })
 }
 
-fn session_is_sound(session: &Session, clock: u64) -> bool {
+/// Whether the fields of one session are in range and no date is above the clock.
+pub fn session_is_sound(session: &Session, clock: u64) -> bool {
     session.settings.in_range()
         && session.multiplier != 0
         && session.detecting_since <= clock

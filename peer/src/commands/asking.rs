@@ -1,6 +1,7 @@
 //! The commands that answer for a proved program.
 
 use super::{file, input, number, print, print_octets, usage, usage_of, Done};
+use peer::log::{self, index::MOST_ENTRIES};
 use peer::why::question::{self, Question};
 use peer::{compare, own, spacing, watch, why};
 use std::io;
@@ -20,8 +21,19 @@ pub fn run(command: &str, words: &[&str]) -> Done {
             let compared = compared(first, second)?.within(number(room)?);
             print_octets(compared.numbers().as_bytes())
         }
+        ("index", [log, label]) => index(log, number(label)?, MOST_ENTRIES),
+        ("index", [log, label, room]) => index(log, number(label)?, number(room)?),
+        ("ask", [log, label, reading]) => {
+            let answer = log::ask(&file(log)?, number(label)?, number(reading)?);
+            print_octets(format!("{}\n", log::answer_text(&answer)).as_bytes())
+        }
         _ => usage(),
     }
+}
+
+fn index(log: &str, label: u32, room: usize) -> Done {
+    let index = log::index::build(&file(log)?, label, room);
+    print_octets(log::index_text(&index).as_bytes())
 }
 
 /// Answers a question; words that are none get the one line of usage.

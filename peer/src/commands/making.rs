@@ -1,7 +1,7 @@
 //! The commands that make captures and texts.
 
-use super::{number, print, print_octets, usage, Done};
-use peer::{assemble, load, make, morning};
+use super::{file, number, print, print_octets, usage, Done};
+use peer::{assemble, load, log, make, morning};
 use std::io;
 use std::process::ExitCode;
 
@@ -16,6 +16,7 @@ pub fn run(command: &str, words: &[&str]) -> Done {
             std::fs::write(second, other)?;
             Ok(ExitCode::SUCCESS)
         }
+        ("log", [path]) => logged(path),
         ("assemble", [path]) => assembled(path),
         ("morning", []) => print_octets(morning::text().as_bytes()),
         ("load", [load, count]) => {
@@ -24,6 +25,12 @@ pub fn run(command: &str, words: &[&str]) -> Done {
         }
         _ => usage(),
     }
+}
+
+fn logged(path: &str) -> Done {
+    let log = log::turn::log_of(&file(path)?);
+    let log = log.map_err(|none| io::Error::other(format!("{path}: {}", none.words())))?;
+    print_octets(&log)
 }
 
 fn assembled(path: &str) -> Done {

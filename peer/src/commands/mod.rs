@@ -12,10 +12,14 @@ const USAGE: &str = "usage: peer watch [--own-table] < capture
        peer why LABEL THING [if=NODE/INTERFACE] [global=ID] [upto=RECORD] < capture
        peer spacing LABEL < capture
        peer compare [--lines] FIRST SECOND [ROOM]
+       peer log CAPTURE > log
+       peer index LOG LABEL [ROOM]
+       peer ask LOG LABEL READING
        peer make [--ties|--spacing] SEED > capture
        peer make --compare SEED FIRST SECOND
        peer assemble TEXT > capture
        peer lists FOLDER
+       peer asks FOLDER
        peer spell LIST > list
        peer answer < list
        peer cells LIST...
@@ -37,9 +41,9 @@ pub fn run(words: &[&str]) -> Done {
         return usage();
     };
     match *command {
-        "watch" | "why" | "spacing" | "compare" => asking::run(command, rest),
-        "make" | "assemble" | "morning" | "load" => making::run(command, rest),
-        "lists" | "spell" | "answer" | "cells" => playing::run(command, rest),
+        "watch" | "why" | "spacing" | "compare" | "index" | "ask" => asking::run(command, rest),
+        "make" | "log" | "assemble" | "morning" | "load" => making::run(command, rest),
+        "lists" | "asks" | "spell" | "answer" | "cells" => playing::run(command, rest),
         "check" | "check-why" | "check-spacing" | "check-compare" | "cover" => {
             checking::run(command, rest)
         }

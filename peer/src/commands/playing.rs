@@ -1,7 +1,7 @@
 //! The commands on lists of calls.
 
 use super::{input, print, print_octets, usage, Done};
-use peer::list;
+use peer::{list, log};
 use std::io;
 use std::path::Path;
 use std::process::ExitCode;
@@ -9,6 +9,7 @@ use std::process::ExitCode;
 pub fn run(command: &str, words: &[&str]) -> Done {
     match (command, words) {
         ("lists", [folder]) => lists(Path::new(folder)),
+        ("asks", [folder]) => asks(Path::new(folder)),
         ("spell", [path]) => print_octets(list::spell(&list_at(Path::new(path))?).as_bytes()),
         ("answer", []) => print(|output| list::answer(input(), output)),
         ("cells", [_, ..]) => cells(words),
@@ -31,6 +32,23 @@ fn lists(folder: &Path) -> Done {
     println!("{lists} lists, {calls} calls, {wrong} of them answered otherwise");
     Ok(match (calls, wrong) {
         (1.., 0) => ExitCode::SUCCESS,
+        _ => ExitCode::FAILURE,
+    })
+}
+
+/// Plays every log of a folder and says what was answered otherwise.
+fn asks(folder: &Path) -> Done {
+    let played = log::play::folder(folder).map_err(io::Error::other)?;
+    for difference in &played.wrong {
+        println!("{difference}");
+    }
+    for (what, times) in &played.counts {
+        println!("{what}: {times}");
+    }
+    let wrong = played.wrong.len();
+    println!("{wrong} of them otherwise");
+    Ok(match (played.counts.is_empty(), wrong) {
+        (false, 0) => ExitCode::SUCCESS,
         _ => ExitCode::FAILURE,
     })
 }
