@@ -8,7 +8,7 @@ use peer::assemble::{answers, assemble};
 use peer::log::index::{build, MOST_ENTRIES};
 use peer::log::records::{self, MOST_RECORDS};
 use peer::log::turn::{log_of, NoLog};
-use peer::log::{answer_text, ask, play, Refusal};
+use peer::log::{answer_text, ask, check, play, Refusal};
 use peer::watch;
 use std::collections::BTreeSet;
 use std::fs;
@@ -137,4 +137,19 @@ fn the_longest_body_is_whole_and_one_octet_more_is_not() {
     log.push(0);
     log[8 + 15] = 1;
     assert_eq!(records::all(&log), None);
+}
+
+/// By an index and by reading all the answers are the same, and the clocks of an
+/// index never fall.
+#[test]
+fn an_index_answers_as_reading_all_does() {
+    let mut questions = 0;
+    for seed in 1..=60 {
+        for case in check::cases(seed).unwrap() {
+            assert!(case.index.clocks.is_sorted(), "seed {seed}");
+            assert!(case.index.places.is_sorted(), "seed {seed}");
+            questions += case.questions.len();
+        }
+    }
+    assert!(questions > 10_000, "{questions}");
 }

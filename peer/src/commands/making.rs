@@ -10,6 +10,7 @@ pub fn run(command: &str, words: &[&str]) -> Done {
         ("make", [seed]) => print_octets(&make::capture(number(seed)?)),
         ("make", ["--ties", seed]) => print_octets(&make::tied(number(seed)?)),
         ("make", ["--spacing", seed]) => print_octets(&make::spaced(number(seed)?)),
+        ("make", ["--log", seed]) => print_octets(&make::logged(number(seed)?)),
         ("make", ["--compare", seed, first, second]) => {
             let [one, other] = make::compared(number(seed)?);
             std::fs::write(first, one)?;

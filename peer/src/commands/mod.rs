@@ -16,6 +16,7 @@ const USAGE: &str = "usage: peer watch [--own-table] < capture
        peer index LOG LABEL [ROOM]
        peer ask LOG LABEL READING
        peer make [--ties|--spacing] SEED > capture
+       peer make --log SEED > log
        peer make --compare SEED FIRST SECOND
        peer assemble TEXT > capture
        peer lists FOLDER
@@ -27,6 +28,7 @@ const USAGE: &str = "usage: peer watch [--own-table] < capture
        peer check-why N [--program PATH]
        peer check-spacing N [--program PATH]
        peer check-compare N [--program PATH]
+       peer check-ask N [--programs FOLDER]
        peer cover N
        peer morning > TEXT
        peer load one|many|mixed|full COUNT > capture";
@@ -44,7 +46,7 @@ pub fn run(words: &[&str]) -> Done {
         "watch" | "why" | "spacing" | "compare" | "index" | "ask" => asking::run(command, rest),
         "make" | "log" | "assemble" | "morning" | "load" => making::run(command, rest),
         "lists" | "asks" | "spell" | "answer" | "cells" => playing::run(command, rest),
-        "check" | "check-why" | "check-spacing" | "check-compare" | "cover" => {
+        "check" | "check-why" | "check-spacing" | "check-compare" | "check-ask" | "cover" => {
             checking::run(command, rest)
         }
         _ => usage(),

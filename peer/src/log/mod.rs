@@ -7,6 +7,8 @@
 pub mod all;
 pub mod ask;
 pub mod changes;
+pub mod check;
+pub mod cover;
 pub mod follow;
 pub mod index;
 pub mod play;

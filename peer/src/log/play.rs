@@ -19,7 +19,7 @@ use super::{all, answer_text, ask, index_text, told, Refusal};
 use crate::assemble::Mistake;
 use crate::capture::{Kind, Record};
 use crate::table::LARGEST_READING;
-use std::collections::BTreeMap;
+use std::collections::btree_map::{BTreeMap, Entry};
 use std::fs;
 use std::path::{Path, PathBuf};
 
@@ -126,10 +126,10 @@ fn asks(played: &mut Played, name: &str, log: &[u8], text: &str) -> Result<(), M
     for ((line, (label, reading)), report) in lines(text).zip(questions).zip(reports) {
         let (asked, expected) = arrow(line)?;
         let build = || index::build(log, label, MOST_ENTRIES).map_err(|r| format!("{r:?}"));
-        if !built.contains_key(&label) {
-            built.insert(label, build()?);
-        }
-        let index = &built[&label];
+        let index = match built.entry(label) {
+            Entry::Occupied(there) => there.into_mut(),
+            Entry::Vacant(place) => place.insert(build()?),
+        };
         let by_index = answer_text(&ask::ask(log, index, label, reading));
         let by_all = match reading > LARGEST_READING {
             true => answer_text(&Err(Refusal::Reading)),

@@ -53,7 +53,7 @@ pub(super) fn pair(seed: u64, capture: &[u8]) -> [Vec<u8>; 2] {
 }
 
 /// The records before what is none.
-fn whole_records(capture: &[u8]) -> Records {
+pub(super) fn whole_records(capture: &[u8]) -> Records {
     let is_whole = |octets: &&[u8]| {
         let length = octets.get(LENGTH..RECORD_HEAD);
         let kind = octets.get(KIND..LENGTH);
@@ -72,7 +72,7 @@ fn number(octets: &[u8]) -> usize {
         .fold(0, |n, octet| 256 * n + usize::from(*octet))
 }
 
-fn joined(records: &Records) -> Vec<u8> {
+pub(super) fn joined(records: &Records) -> Vec<u8> {
     let mut capture = HEADER.to_vec();
     capture.extend(records.iter().flatten());
     capture

@@ -5,6 +5,7 @@ mod compares;
 mod damage;
 mod draft;
 mod ending;
+mod logs;
 mod readings;
 mod scenarios;
 mod sequences;
@@ -12,6 +13,7 @@ mod spacings;
 mod ties;
 
 use crate::capture::{Kind, Record, HEADER};
+use crate::log::turn::log_of;
 use crate::random::Random;
 use crate::session::Session;
 use crate::table::{Answer, Table, LARGEST_READING};
@@ -118,6 +120,13 @@ pub fn spaced(seed: u64) -> Vec<u8> {
 /// Two captures for a seed that differ in little, or not at all.
 pub fn compared(seed: u64) -> [Vec<u8>; 2] {
     compares::pair(seed, &tied(seed))
+}
+
+/// The log for a seed: its capture with the answers that the table gives.
+pub fn logged(seed: u64) -> Vec<u8> {
+    let capture = logs::with_runs(seed, &capture(seed));
+    // It has whole records alone, and not too many of them.
+    log_of(&capture).unwrap_or_default()
 }
 
 impl Maker {
