@@ -7,12 +7,14 @@ use std::time::{Duration, Instant};
 
 pub const USAGE: &str = "usage: desk import TAP SESSIONS > capture
        desk export CAPTURE > pcapng
-       desk text CAPTURE
-       desk assemble TEXT > capture
+       desk text CAPTURE|LOG
+       desk assemble TEXT > capture|log
        desk events CAPTURE [--label L] [--from T] [--to T] [--json] [--spacing]
        desk timeline CAPTURE > page.html
        desk case CAPTURE LABEL --from T --to T > page.html
        desk compare FIRST SECOND
+       desk log CAPTURE > log
+       desk log --check LOG
 Each command says more with --help.
 ";
 

@@ -7,6 +7,7 @@ pub mod events;
 pub mod export;
 pub mod html;
 pub mod import;
+pub mod log;
 pub mod programs;
 pub mod sessions;
 pub mod sha256;

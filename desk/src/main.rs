@@ -2,7 +2,7 @@
 //! difference shown here comes from the proved programs `watch`, `why`,
 //! `spacing` and `compare`, which are run; this program chooses what to ask and how to show it.
 
-use desk::{case, cli, compare, events, export, import, text, timeline};
+use desk::{case, cli, compare, events, export, import, log, text, timeline};
 use std::process::ExitCode;
 
 fn main() -> ExitCode {
@@ -20,6 +20,7 @@ fn main() -> ExitCode {
         "timeline" => timeline::run(rest),
         "case" => case::run(rest),
         "compare" => compare::run(rest),
+        "log" => log::run(rest),
         "--help" | "-h" | "help" => cli::say(cli::USAGE),
         other => Err(cli::Failure::usage(format!("no command `{other}`"))),
     };

@@ -2,7 +2,7 @@
 
 use super::ask::{Difference, What};
 use crate::cli::{Done, Failure};
-use crate::text::records::{Next, Records};
+use crate::text::records::{Form, Next, Records};
 use crate::text::words::append_record;
 use peer::capture::Record;
 use std::fs::File;
@@ -38,19 +38,19 @@ impl<'p> Side<'p> {
 
     /// Reads on to a record that was named; that it is there was said by `compare`.
     fn record(&mut self, number: u64) -> Result<Record<'_>, Failure> {
-        if self.read == 0 && !self.records.header()? {
+        if self.read == 0 && self.records.header()? != Form::Capture {
             return Err(self.none(number));
         }
         while self.read + 1 < number {
             match self.records.next()? {
-                Next::Record(_) => self.read += 1,
+                Next::Record(..) => self.read += 1,
                 Next::End | Next::Cut => return Err(self.none(number)),
             }
         }
         self.read = number;
         let none = self.none(number);
         match self.records.next()? {
-            Next::Record(record) => Ok(record),
+            Next::Record(record, _) => Ok(record),
             Next::End | Next::Cut => Err(none),
         }
     }
@@ -64,12 +64,12 @@ impl<'p> Side<'p> {
 
     /// Why no more can be read: what is no whole capture, said with the place.
     pub fn damage(mut self) -> Result<String, Failure> {
-        if !self.records.header()? {
+        if self.records.header()? != Form::Capture {
             return Ok("offset 0: not the header of a capture".to_string());
         }
         loop {
             match self.records.next()? {
-                Next::Record(_) => self.read += 1,
+                Next::Record(..) => self.read += 1,
                 Next::End => return Ok("nothing is wrong with it here".to_string()),
                 Next::Cut => {
                     let (offset, read) = (self.records.offset(), self.read);

@@ -1,6 +1,6 @@
 //! The answers of `watch` in words.
 
-use super::digits::octets_of;
+use super::digits::{append_number, octets_of};
 use super::messages::{append_message, word};
 use peer::capture::{Kind, Record};
 
@@ -25,6 +25,21 @@ pub fn append_answer(out: &mut Vec<u8>, record: &Record, answer: &[u8]) {
     if known.is_none() {
         out.truncate(start);
         out.extend_from_slice(answer);
+    }
+}
+
+/// Appends in words the answer that a log has: its number alone, so that a report and a message
+/// written are just accepted, and a place in a message is not said.
+pub fn append_logged(out: &mut Vec<u8>, record: &Record, answer: u16) {
+    if answer == 0 {
+        return word(out, "accepted");
+    }
+    word(out, "refused ");
+    append_number(out, answer.into());
+    let number = u8::try_from(answer).ok();
+    if let Some(reason) = number.and_then(|number| reason(record, number, None)) {
+        word(out, ": ");
+        word(out, reason);
     }
 }
 

@@ -1,15 +1,17 @@
-//! `desk assemble`: from words back to a capture, line by line.
+//! `desk assemble`: from words back to a capture or a log, line by line.
 
 use crate::cli::{say, Done, Failure, Progress, Words};
 use peer::assemble::append_line;
-use peer::capture::HEADER;
+use peer::capture::{HEADER, RECORD_HEAD};
+use peer::log::records as log;
 use std::fs::File;
 use std::io::{self, BufRead, BufReader, Read, Write};
 
-const HELP: &str = "usage: desk assemble TEXT > capture
+const HELP: &str = "usage: desk assemble TEXT > capture|log
 
 Makes a capture of a text with one record a line, as `desk text` writes it or by hand
-(docs/COMPARISON.md has the words). What stands behind `=>` or `#` is passed over.
+(docs/COMPARISON.md has the words). What stands behind `=>` or `#` is passed over. Behind a line
+`log`, which comes before all records, the text is that of a log: `=>` has the number answered.
 ";
 const ROOM: usize = 1 << 18;
 /// A longest record takes less than 5,000 characters.
@@ -37,7 +39,8 @@ fn assemble(
 ) -> Done {
     let mut capture = HEADER.to_vec();
     let mut line = Vec::new();
-    let (mut offset, mut untouched) = (0, true);
+    let mut offset = 0;
+    let mut so_far = SoFar::Nothing;
     for number in 1u64.. {
         let mistake = |mistake| Failure::new(format!("{path}, line {number}: {mistake}"));
         line.clear();
@@ -48,7 +51,7 @@ fn assemble(
             break;
         }
         offset += length as u64;
-        append(&mut capture, &line, &mut untouched).map_err(mistake)?;
+        append(&mut capture, &line, &mut so_far).map_err(mistake)?;
         if capture.len() >= ROOM {
             out.write_all(&capture)?;
             capture.clear();
@@ -59,26 +62,62 @@ fn assemble(
     Ok(out.flush()?)
 }
 
-/// Appends what a line stands for. A header gives the first octets, so it comes before all else.
-fn append(capture: &mut Vec<u8>, line: &[u8], untouched: &mut bool) -> Result<(), String> {
+/// What the lines before have said.
+#[derive(Clone, Copy, PartialEq, Eq)]
+enum SoFar {
+    Nothing,
+    Capture,
+    Log,
+}
+
+/// Appends what a line stands for. A header gives the first octets, so it comes before all else, and
+/// so does `log`.
+fn append(capture: &mut Vec<u8>, line: &[u8], so_far: &mut SoFar) -> Result<(), String> {
     if line.len() as u64 >= LONGEST_LINE {
         return Err(format!("longer than {LONGEST_LINE} characters"));
     }
     let line = std::str::from_utf8(line)
         .map_err(|error| format!("no UTF-8 behind character {}", error.valid_up_to()))?;
     // Some editors put a mark before the first character.
-    let call = call_of(line.trim_start_matches('\u{feff}'));
-    let is_header = call.split_whitespace().next() == Some("header");
-    if is_header && !*untouched {
-        return Err("a header stands before the first record".to_string());
+    let (call, answer) = call_of(line.trim_start_matches('\u{feff}'));
+    let first = call.split_whitespace().next();
+    match (first, *so_far) {
+        (None, _) => {}
+        (Some("log"), SoFar::Nothing) if call.trim() == "log" => {
+            *so_far = SoFar::Log;
+            *capture = log::HEADER.to_vec();
+        }
+        (Some("header" | "log"), SoFar::Capture | SoFar::Log) => {
+            return Err("a header stands before the first record".to_string());
+        }
+        (Some("octets"), SoFar::Log) => append_line(capture, call)?,
+        (Some(_), SoFar::Log) => append_logged(capture, call, answer)?,
+        (Some(_), _) => {
+            *so_far = SoFar::Capture;
+            append_line(capture, call)?;
+        }
     }
-    append_line(capture, call)?;
-    *untouched &= call.trim().is_empty();
     Ok(())
 }
 
-/// What a line asks for, without answer and remark.
-fn call_of(line: &str) -> &str {
+/// Appends a record of a log: the answer stands between its length and its body.
+fn append_logged(log: &mut Vec<u8>, call: &str, answer: Option<&str>) -> Result<(), String> {
+    let answer = answer.ok_or("no answer")?.trim();
+    let number: u16 = answer
+        .parse()
+        .map_err(|_| format!("no answer of a log: {answer}"))?;
+    let mut record = Vec::new();
+    append_line(&mut record, call)?;
+    let (head, body) = record.split_at(RECORD_HEAD.min(record.len()));
+    log.extend_from_slice(head);
+    log.extend_from_slice(&number.to_be_bytes());
+    log.extend_from_slice(body);
+    Ok(())
+}
+
+/// What a line asks for, and the answer behind it, without the remark.
+fn call_of(line: &str) -> (&str, Option<&str>) {
     let line = line.split_once('#').map_or(line, |(call, _)| call);
-    line.split_once("=>").map_or(line, |(call, _)| call)
+    let split = line.split_once("=>");
+    split.map_or((line, None), |(call, answer)| (call, Some(answer)))
 }

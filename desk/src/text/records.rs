@@ -1,13 +1,24 @@
-//! The records of a capture one after the other, and no octet lost where it goes wrong.
+//! The records of a capture or a log one after the other, and no octet lost where it goes wrong.
 
 use crate::cli::Failure;
 use peer::capture::{Kind, Record, HEADER, LONGEST_BODY, RECORD_HEAD};
+use peer::log::records as log;
 use peer::octets::{be16, be32, be64};
 use std::io::{self, ErrorKind, Read};
 
-/// What comes next in a capture.
+/// What a file is, by its header.
+#[derive(Clone, Copy, Debug, PartialEq, Eq)]
+pub enum Form {
+    Capture,
+    /// Each record has the answer that was given, behind its length.
+    Log,
+    Neither,
+}
+
+/// What comes next in a capture or a log.
 pub enum Next<'a> {
-    Record(Record<'a>),
+    /// A record, and in a log its answer.
+    Record(Record<'a>, Option<u16>),
     End,
     /// No whole record: what stands there is given by `rest`.
     Cut,
@@ -16,7 +27,9 @@ pub enum Next<'a> {
 pub struct Records<'p, R> {
     path: &'p str,
     input: R,
-    room: Box<[u8; RECORD_HEAD + LONGEST_BODY]>,
+    room: Box<[u8; log::HEAD + LONGEST_BODY]>,
+    /// How much of a record stands before its body.
+    head: usize,
     /// How much of the room was filled last, by what may turn out to be no record.
     filled: usize,
     /// Where that started.
@@ -26,12 +39,14 @@ pub struct Records<'p, R> {
 impl<'p, R: Read> Records<'p, R> {
     /// The path is for messages alone.
     pub fn of(path: &'p str, input: R) -> Records<'p, R> {
-        let room = Box::new([0; RECORD_HEAD + LONGEST_BODY]);
+        let room = Box::new([0; log::HEAD + LONGEST_BODY]);
+        let head = RECORD_HEAD;
         let (filled, offset) = (0, 0);
         Records {
             path,
             input,
             room,
+            head,
             filled,
             offset,
         }
@@ -42,33 +57,47 @@ impl<'p, R: Read> Records<'p, R> {
         self.offset
     }
 
-    /// Whether the capture starts as it should; what stands there else is given by `rest`.
-    pub fn header(&mut self) -> Result<bool, Failure> {
+    /// What the file starts as; what stands there else is given by `rest`.
+    pub fn header(&mut self) -> Result<Form, Failure> {
         self.fill(HEADER.len())?;
-        Ok(self.room.get(..self.filled) == Some(&HEADER))
+        let header = self.room.get(..self.filled);
+        let form = match header {
+            _ if header == Some(&HEADER) => Form::Capture,
+            _ if header == Some(&log::HEADER) => Form::Log,
+            _ => Form::Neither,
+        };
+        if form == Form::Log {
+            self.head = log::HEAD;
+        }
+        Ok(form)
     }
 
     pub fn next(&mut self) -> Result<Next<'_>, Failure> {
         self.offset += self.filled as u64;
         self.filled = 0;
-        self.fill(RECORD_HEAD)?;
+        let head = self.head;
+        self.fill(head)?;
         if self.filled == 0 {
             return Ok(Next::End);
         }
         let (time, label) = (be64(&self.room[..], 0), be32(&self.room[..], 8));
         let kind = Kind::from_number(be16(&self.room[..], 12));
         let length = usize::from(be16(&self.room[..], 14));
-        let (Some(kind), RECORD_HEAD, 0..=LONGEST_BODY) = (kind, self.filled, length) else {
+        let (Some(kind), true, 0..=LONGEST_BODY) = (kind, self.filled == head, length) else {
             return Ok(Next::Cut);
         };
-        self.fill(RECORD_HEAD + length)?;
-        match self.room.get(RECORD_HEAD..self.filled) {
-            Some(body) if body.len() == length => Ok(Next::Record(Record {
-                time,
-                label,
-                kind,
-                body,
-            })),
+        self.fill(head + length)?;
+        let answer = (head == log::HEAD).then(|| be16(&self.room[..], RECORD_HEAD));
+        match self.room.get(head..self.filled) {
+            Some(body) if body.len() == length => {
+                let record = Record {
+                    time,
+                    label,
+                    kind,
+                    body,
+                };
+                Ok(Next::Record(record, answer))
+            }
             _ => Ok(Next::Cut),
         }
     }

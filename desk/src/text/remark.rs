@@ -1,7 +1,7 @@
 //! What stands behind a record as a remark: its number, the time of day, the session's name and
 //! the answer.
 
-use super::answer::append_answer;
+use super::answer::{append_answer, append_logged};
 use super::digits::{append_number, append_spaces};
 use crate::events::clock::Epoch;
 use crate::sessions::Session;
@@ -27,7 +27,7 @@ impl Remarks {
         }
     }
 
-    /// Appends the remark to the line that starts at `start`.
+    /// Appends the remark to the line that starts at `start`, with an answer of `watch`.
     pub fn append(
         &self,
         out: &mut Vec<u8>,
@@ -36,6 +36,27 @@ impl Remarks {
         record: &Record,
         answer: &[u8],
     ) {
+        self.append_front(out, start, number, record);
+        append_answer(out, record, answer);
+        out.push(b'\n');
+    }
+
+    /// The same with the answer of a log.
+    pub fn append_logged(
+        &self,
+        out: &mut Vec<u8>,
+        start: usize,
+        number: u64,
+        record: &Record,
+        answer: u16,
+    ) {
+        self.append_front(out, start, number, record);
+        append_logged(out, record, answer);
+        out.push(b'\n');
+    }
+
+    /// What stands before the answer.
+    fn append_front(&self, out: &mut Vec<u8>, start: usize, number: u64, record: &Record) {
         append_spaces(out, start, COLUMN);
         out.extend_from_slice(b"# ");
         append_number(out, number);
@@ -52,7 +73,5 @@ impl Remarks {
             out.extend_from_slice(name.as_bytes());
         }
         out.extend_from_slice(b": ");
-        append_answer(out, record, answer);
-        out.push(b'\n');
     }
 }

@@ -1,8 +1,8 @@
-//! `desk text`: a capture in words.
+//! `desk text`: a capture or a log in words.
 
 use super::answers::Answers;
-use super::digits::append_hex;
-use super::records::{Next, Records};
+use super::digits::{append_hex, append_number};
+use super::records::{Form, Next, Records};
 use super::remark::Remarks;
 use super::words::append_record;
 use crate::cli::{say, Done, Failure, Progress, Words};
@@ -12,12 +12,14 @@ use std::fs::File;
 use std::io::{self, BufReader, Read, Write};
 use std::path::Path;
 
-const HELP: &str = "usage: desk text CAPTURE [--sessions FILE] [--epoch TIME]
+const HELP: &str = "usage: desk text CAPTURE|LOG [--sessions FILE] [--epoch TIME]
 
 Writes a capture as text, one record a line: time, label, kind and the fields of the message in
 the words that `desk assemble` reads back to the same octets. What no word says stands as octets.
 Behind `#` stand the number of the record, the session's name and the answer of `watch` in words.
 A capture that is cut or has a bad header is written whole too, and then named as a failure.
+A log has the line `log` before its records and the answer that it has behind each, with `=>`; its
+answers in words are the log's own, and `watch` is not asked (`desk log --check` does that).
 
   --sessions FILE   names of the sessions by their labels (the file of `desk import`)
   --epoch TIME      when reading 0 was, seconds since 1970 (1,700,000,000) or UTC
@@ -25,6 +27,8 @@ A capture that is cut or has a bad header is written whole too, and then named a
 ";
 const TITLE: &[u8] =
     b"#         time    label  call (docs/COMPARISON.md has the words)        # record, session: answer of watch\n";
+const LOG_TITLE: &[u8] =
+    b"#         time    label  call (docs/COMPARISON.md has the words)        # record, session: answer of the log\nlog\n";
 /// Octets that are no record, to a line.
 const OCTETS_A_LINE: usize = 32;
 /// How much is read and written at once.
@@ -63,14 +67,16 @@ fn write_text(path: &str, remarks: &Remarks, out: impl Write) -> Done {
     }
     let mut text = Text {
         out,
-        room: TITLE.to_vec(),
+        room: Vec::new(),
         progress: Progress::start("text", about.len()),
     };
-    let mut answers = Answers::of(open(path)?)?;
     let mut records = Records::of(path, BufReader::with_capacity(ROOM, file));
-    let last = text.capture(&mut records, &mut answers, remarks)?;
-    let (behind, offset) = (answers.record(), records.offset());
-    answers.end(last)?;
+    let form = records.header()?;
+    let (last, behind) = match form {
+        Form::Log => text.log(&mut records, remarks)?,
+        _ => text.capture(path, form, &mut records, remarks)?,
+    };
+    let offset = records.offset();
     text.flush()?;
     match last {
         "" => Ok(()),
@@ -89,25 +95,65 @@ struct Text<W> {
 }
 
 impl<W: Write> Text<W> {
-    /// Writes all that a capture has; gives the last line that `watch` owes where it goes wrong.
+    /// Writes all that a capture has; gives the last line that `watch` owes where it goes wrong, and
+    /// how many records stand before.
     fn capture<R: Read>(
         &mut self,
+        path: &str,
+        form: Form,
         records: &mut Records<R>,
-        answers: &mut Answers,
         remarks: &Remarks,
-    ) -> Result<&'static str, Failure> {
-        let last = match records.header()? {
-            true => self.records(records, answers, remarks)?,
-            false => "bad header",
+    ) -> Result<(&'static str, u64), Failure> {
+        self.room.extend_from_slice(TITLE);
+        let mut answers = Answers::of(open(path)?)?;
+        let last = match form {
+            Form::Capture => self.records(records, &mut answers, remarks)?,
+            _ => "bad header",
         };
         if last == "bad header" {
             self.remark("bad header: no capture");
             self.octets(b"header", records)?;
-        } else if last == "cut" {
+        }
+        self.behind(last, records)?;
+        let behind = answers.record();
+        answers.end(last)?;
+        Ok((last, behind))
+    }
+
+    /// Writes all that a log has; gives `cut` where it is, and how many records stand before.
+    fn log<R: Read>(
+        &mut self,
+        records: &mut Records<R>,
+        remarks: &Remarks,
+    ) -> Result<(&'static str, u64), Failure> {
+        self.room.extend_from_slice(LOG_TITLE);
+        let mut number = 0;
+        let last = loop {
+            self.flush_if_full(records.offset())?;
+            match records.next()? {
+                Next::End => break "",
+                Next::Cut => break "cut",
+                Next::Record(record, answer) => {
+                    number += 1;
+                    let (start, answer) = (self.room.len(), answer.unwrap_or(0));
+                    append_record(&mut self.room, &record);
+                    self.room.extend_from_slice(b" => ");
+                    append_number(&mut self.room, answer.into());
+                    remarks.append_logged(&mut self.room, start, number, &record, answer);
+                }
+            }
+        };
+        self.behind(last, records)?;
+        Ok((last, number))
+    }
+
+    /// The octets behind the last record, where it is cut.
+    fn behind<R: Read>(&mut self, last: &str, records: &mut Records<R>) -> Done {
+        if last == "cut" {
             self.remark("cut: no whole record stands here");
         }
         while !last.is_empty() && self.octets(b"octets", records)? {}
-        Ok(last)
+        Ok(())
     }
 
     /// Writes records with their answers up to the end, or to what is no record.
@@ -122,7 +168,7 @@ impl<W: Write> Text<W> {
             match records.next()? {
                 Next::End => return Ok(""),
                 Next::Cut => return Ok("cut"),
-                Next::Record(record) => {
+                Next::Record(record, _) => {
                     let start = self.room.len();
                     append_record(&mut self.room, &record);
                     let number = answers.record() + 1;
