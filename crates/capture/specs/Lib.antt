@@ -1,3 +1,4 @@
 pub mod Records
+pub mod Raws
 pub mod Lines
 pub mod Typing
