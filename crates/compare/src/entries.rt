@@ -9,29 +9,36 @@ use octets::either;
 use octets::from_place;
 ghost use mathlib.Core.Path.{_≡_};
 ghost use mathlib.Core.Bool.{_||_};
-ghost use Prim.Native.Nat.{_+_, _*_, _^_, _<_};
+ghost use Prim.Native.Nat.{_+_, _*_, _^_, _≤_, _<_};
+ghost use lib.ListN.{set};
 ghost use Rattle.capture.specs.Raws.{standsIn};
 ghost use Rattle.compare.specs.Differences.{Listed, only, listOf, compared};
 ghost use Rattle.compare.specs.Walk.{marked, Put};
 
+fn put_number(list: &mut [u64], at: usize, n: u64)
+    ensures { λ _. ⌜ now (list .exit) ≡ set (now (list .entry)) at n ⌝ }
+{
+    if at < list.len() {
+        list[at] = n;
+    }
+}
+
 // An entry where the test holds. Past the end it is counted and not written.
 fn put_only(list: &mut [u64], at: usize, test: bool, entry: u64) -> usize
     requires { ⌜ at + 1 < 2 ^ 64 ⌝ }
-    ensures { λ r. ⌜ Put (now (list .entry)) at (only test entry) (now (list .exit)) r ⌝ }
+    ensures { λ r. ⌜ (Put (now (list .entry)) at (only test entry) (now (list .exit)) r) × (r ≤ at + 1) ⌝ }
 {
     if !test {
         return at;
     }
-    if at < list.len() {
-        list[at] = entry;
-    }
+    put_number(list, at, entry);
     at + 1
 }
 
 // The entries of record n.
 fn put_marks(list: &mut [u64], at: usize, n: u64, m: Marks) -> usize
     requires { ⌜ (at + 7 < 2 ^ 64) × (8 * n + 6 < 2 ^ 64) ⌝ }
-    ensures { λ r. ⌜ Put (now (list .entry)) at (marked n m) (now (list .exit)) r ⌝ }
+    ensures { λ r. ⌜ (Put (now (list .entry)) at (marked n m) (now (list .exit)) r) × (r ≤ at + 7) ⌝ }
 {
     let base = 8 * n;
     let a = put_only(&mut *list, at, m.time, base);
@@ -69,7 +76,9 @@ fn put_list(first: &[u8], second: &[u8], list: &mut [u64]) -> usize
     count
 }
 
-fn refused(n: u32) -> Compared {
+fn refused(n: u32) -> Compared
+    ensures { λ r. ⌜ (r .answer ≡ n) × (r .count ≡ 0) ⌝ }
+{
     Compared {
         answer: n,
         count: 0,

@@ -1,0 +1,4 @@
+pub mod Octets
+pub mod Pairs
+pub mod Going
+pub mod Whole
