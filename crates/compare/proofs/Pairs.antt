@@ -203,7 +203,7 @@ module _ (s t : List ℕ) where
       (λ f. rw (raws-there s e, raws-away t f)))
       (λ e. rw (raws-away s e))
 
-  both-stand : alikeIn s t ≡ true → (standsIn 16 s ≡ true) × ((standsIn 16 t ≡ true) × (alike (rawIn 16 s) (rawIn 16 t) ≡ true))
+  pub both-stand : alikeIn s t ≡ true → (standsIn 16 s ≡ true) × ((standsIn 16 t ≡ true) × (alike (rawIn 16 s) (rawIn 16 t) ≡ true))
   unfolding alikeIn
   both-stand h =
       let p = and-both (standsIn 16 s) (standsIn 16 t && alike (rawIn 16 s) (rawIn 16 t)) h in
@@ -213,7 +213,7 @@ module _ (s t : List ℕ) where
   alike-stands h = both-stand h .0
 
   -- records that are alike have the same size
-  same-step : alikeIn s t ≡ true → stepOf t ≡ stepOf s
+  pub same-step : alikeIn s t ≡ true → stepOf t ≡ stepOf s
   unfolding rawIn
   same-step h =
       let b = both-stand h in

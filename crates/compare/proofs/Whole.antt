@@ -79,11 +79,10 @@ module _ {s t : List ℕ} {at : ℕ} (g : Agreed s t at) (x y : List ℕ) (ex : 
   alike-here h = ap (λ (z : List ℕ). alikeIn z (drop at t)) (sym ex) ∙ ap (λ (z : List ℕ). alikeIn x z) (sym ey) ∙ h
 
   pub agreed-step : alikeIn x y ≡ true → (n : ℕ) → n ≡ stepOf (drop at s) → (16 ≤ n) × (at + n ≤ length s)
-  agreed-step h n e =
-      (
-        omega (arith, step-least (drop at s) (alike-stands (drop at s) (drop at t) (alike-here h))),
-        omega (arith, step-most (drop at s), length-drop at s, g .within),
-      )
+  agreed-step h n e = (
+    omega (arith, step-least (drop at s) (alike-stands (drop at s) (drop at t) (alike-here h))),
+    omega (arith, step-most (drop at s), length-drop at s, g .within),
+  )
 
   pub agreed-more : alikeIn x y ≡ true → (n : ℕ) → n ≡ stepOf (drop at s) → Agreed s t (at + n)
   agreed-more h n e =
@@ -112,14 +111,13 @@ module _ (first second : List ℕ) where
   pub rest-begins : badCapture first || badCapture second ≡ false → (s t : List ℕ) → s ≡ drop 8 first → t ≡ drop 8 second → (n : ℕ)
       → (n ≡ agreeing (rawsIn 16 s .raws) (rawsIn 16 t .raws)) × (n ≤ length s) → (8 + n ≡ restPlace first second) × (8 + n ≤ length first)
   unfolding restPlace recordsOf
-  rest-begins e s t es et n p =
-      (
-        rw e
+  rest-begins e s t es et n p = (
+    rw e
         (ap (λ (x : ℕ). 8 + x)
         (p .0 ∙ ap (λ (x : List ℕ). agreeing (rawsIn 16 x .raws) (rawsIn 16 t .raws)) es
         ∙ ap (λ (x : List ℕ). agreeing (rawsIn 16 (drop 8 first) .raws) (rawsIn 16 x .raws)) et)),
-        omega (arith, p .1, ap length es, length-drop 8 first, good-length first (left (badCapture first) (badCapture second) e)),
-      )
+    omega (arith, p .1, ap length es, length-drop 8 first, good-length first (left (badCapture first) (badCapture second) e)),
+  )
     where
       left : (a b : Bool) → a || b ≡ false → a ≡ false
       left true b h = h

@@ -1,3 +1,5 @@
 pub mod Differences
 pub mod Rest
 pub mod Walk
+pub mod Exactly
+pub mod Agreement

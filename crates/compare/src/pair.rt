@@ -72,7 +72,10 @@ pub fn marks_of(s: &[u8], t: &[u8]) -> Marks
     }
     let a = record_at(s, 0);
     let b = record_at(t, 0);
-    let same = same_octets(body_at(s, 0, a.size as usize), body_at(t, 0, b.size as usize));
+    let same = same_octets(
+        body_at(s, 0, a.size as usize),
+        body_at(t, 0, b.size as usize),
+    );
     Marks {
         time: a.time != b.time,
         label: a.label != b.label,

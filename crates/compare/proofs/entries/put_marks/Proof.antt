@@ -30,13 +30,12 @@ put-marks-spec =
     (λ c. search needs)
     (λ c κs. search needs)
     (λ c. search needs)
-    (λ c.
-    (
+    (λ c. (
       put-then (put-as (c .before .before .before .before .before .before .before .before .before .before .before .before .before .before .before .before .before .before .before .before .before .before .before .before .before .before .before .before .before .args .m .time) (sym (add-zero (8 * c .before .before .before .before .before .before .before .before .before .before .before .before .before .before .before .before .before .before .before .before .before .before .before .before .before .before .before .before .before .args .n))) (c .before .before .before .before .before .before .before .before .before .before .before .before .before .before .before .before .before .before .before .before .before .before .before .before .before .before .put-only .ensures .0))
-      (put-then (c .before .before .before .before .before .before .before .before .before .before .before .before .before .before .before .before .before .before .before .before .before .before .put-only2 .ensures .0)
-      (put-then (c .before .before .before .before .before .before .before .before .before .before .before .before .before .before .before .before .before .before .put-only3 .ensures .0)
-      (put-then (c .before .before .before .before .before .before .before .before .before .before .before .before .before .before .put-only4 .ensures .0)
-      (put-then (c .before .before .before .before .before .before .before .before .before .before .put-only5 .ensures .0)
-      (put-then (c .before .before .before .before .before .before .put-only6 .ensures .0) (c .before .before .put-only7 .ensures .0)))))),
+          (put-then (c .before .before .before .before .before .before .before .before .before .before .before .before .before .before .before .before .before .before .before .before .before .before .put-only2 .ensures .0)
+          (put-then (c .before .before .before .before .before .before .before .before .before .before .before .before .before .before .before .before .before .before .put-only3 .ensures .0)
+          (put-then (c .before .before .before .before .before .before .before .before .before .before .before .before .before .before .put-only4 .ensures .0)
+          (put-then (c .before .before .before .before .before .before .before .before .before .before .put-only5 .ensures .0)
+          (put-then (c .before .before .before .before .before .before .put-only6 .ensures .0) (c .before .before .put-only7 .ensures .0)))))),
       omega arith,
     )))
