@@ -1,18 +1,17 @@
 -- The run over a whole capture in one slice gives the spacing of the capture's history.
 -- Assumes nothing.
-use Prim.Native.Nat.{ℕ, _-_, _<_, _^_}
-use native.Mathlib.Omega.{arith}
-use mathlib.Core.Path.{_≡_, refl, sym, ap, subst, _∙_}
+use Prim.Native.Nat.{ℕ}
+use mathlib.Core.Path.{_≡_, sym, ap, _∙_}
 use mathlib.Core.Bool.{true, false, cond}
 use mathlib.Core.List.{List, []}
-use lib.ListN.{length, drop, replicate, length-replicate, length-drop}
+use lib.ListN.{drop, replicate, length-replicate}
 use Rattle.rules.specs.Calls.{Call}
 use Rattle.session.specs.declared.Session.{Session}
 use Rattle.table.specs.Table.{absent, emptied}
 use Rattle.capture.specs.Records.{headerFits}
 use Rattle.meaning.specs.Histories.{History, start}
 use Rattle.meaning.specs.Edges.{told-all}
-use Rattle.text.specs.Text.{parsedBy, parsed}
+use Rattle.text.specs.Text.{parsed}
 use Rattle.cause.specs.Pasts.{pastOf}
 use Rattle.account.specs.declared.Account.{Account}
 use Rattle.account.specs.declared.Spaced.{Spaced}
@@ -32,24 +31,22 @@ pub unfit : (capture : List ℕ) (l : ℕ) → headerFits capture ≡ false → 
 unfolding pastOf spacingOf errors
 unfit capture l e = rw e (ap finishedOf (sym account-none) ∙ finished-account (exact []))
 
-module _ (capture kept : List ℕ) (l : ℕ) (fits : headerFits capture ≡ true) (small : length capture - 8 < 2 ^ 64) where
+module _ (capture : List ℕ) (l : ℕ) (fits : headerFits capture ≡ true) where
   abbrev row : List Session
   row = replicate 64 absent
 
   abbrev a : Asked
-  a = beginning l (length capture - 8)
+  a = beginning l
 
   abbrev y : Trail
-  y = paceOf (a .row) (a .pacing) capture kept
+  y = paceOf (a .row) (a .pacing) capture
 
   abbrev calls : List Call
   calls = parsed (drop 8 capture) .calls
 
   is-run : run-of y ≡ runAll l (runStart row) calls
-  unfolding beginning runStart emptied parsed
-  is-run =
-      let all : length capture - 8 - 0 ≡ length (drop 8 capture) = omega (arith, length-drop 8 capture) in
-      pace-runs (a .row) (a .pacing) capture kept small .run ∙ ap (λ (n : ℕ). runAll l (runStart row) (parsedBy n (drop 8 capture) .calls)) all
+  unfolding beginning runStart emptied
+  is-run = pace-runs (a .row) (a .pacing) capture .run
 
   past-is : told-all start calls ≡ pastOf capture
   unfolding pastOf
@@ -62,10 +59,10 @@ module _ (capture kept : List ℕ) (l : ℕ) (fits : headerFits capture ≡ true
       ∙ ap (spacingOf l) past-is
 
 -- by the parts of the code
-pub spaces : (capture kept ks : List ℕ) (l : ℕ) → headerFits capture ≡ true → (upto : ℕ) → (upto ≡ length capture - 8) × (upto < 2 ^ 64)
-    → (b : Asked) → b ≡ beginning l upto → (t : Asked) → record { row = t .row; pacing = t .pacing; kept = ks } ≡ paceOf (b .row) (b .pacing) capture kept
+pub spaces : (capture : List ℕ) (l : ℕ) → headerFits capture ≡ true → (b : Asked) → b ≡ beginning l
+    → (t : Asked) → record { row = t .row; pacing = t .pacing } ≡ paceOf (b .row) (b .pacing) capture
     → (r : Spaced) → r ≡ finishedOf (t .pacing .pace .account) → r ≡ spacingOf l (pastOf capture)
-spaces capture kept ks l fits upto u b eb t et r er =
+spaces capture l fits b eb t et r er =
     er
-    ∙ ap (λ (w : Trail). finishedOf (w .pacing .pace .account)) (et ∙ ap (λ (x : Asked). paceOf (x .row) (x .pacing) capture kept) (eb ∙ ap (beginning l) (u .0)))
-    ∙ whole capture kept l fits (subst (λ (n : ℕ). n < 2 ^ 64) (u .0) (u .1))
+    ∙ ap (λ (w : Trail). finishedOf (w .pacing .pace .account)) (et ∙ ap (λ (x : Asked). paceOf (x .row) (x .pacing) capture) eb)
+    ∙ whole capture l fits

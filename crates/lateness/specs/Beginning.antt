@@ -7,14 +7,13 @@ use Rattle.interval.specs.Pacing.{atRest}
 use Rattle.pace.specs.declared.asked.Asked.{Asked}
 
 -- the first record lies behind the 8 octets of the header
-unfoldable pub beginning : ℕ → ℕ → Asked
-beginning label upto =
+unfoldable pub beginning : ℕ → Asked
+beginning label =
     record {
       row = replicate 64 absent;
       pacing =
           record {
             fed = record { head = record { clock = 0; occupied = 0 }; number = 0; used = 8; written = 0 };
-            upto = upto;
             pace = atRest;
             label = label;
           };

@@ -35,16 +35,12 @@ use Rattle.interval.proofs.Recorded.{event-is}
 use Rattle.pace.specs.declared.Pacing.{Pacing}
 use Rattle.pace.specs.declared.calls.Paced.{Paced}
 use Rattle.pace.specs.Pacing.{moreOf, Trail, turnOf, goOn, paceOf}
-use Rattle.pace.specs.Calling.{setSought, noteOf, toldBy, Paces, Behind, keptBy}
-
-both : (t u : Bool) → Holds (t && u) → Holds t × Holds u
-both true u h = (tt, h)
-both false u h = absurd h
+use Rattle.pace.specs.Calling.{setSought, noteOf, toldBy, Paces, keptBy}
 
 -- ---- a whole record that stands next is one that a feed with room for its line would take
 pub whole : (x : Pacing) (input : List ℕ) → Holds (moreOf x input) → Holds (isWhole (nextIn (drop (x .fed .used) input)))
 unfolding moreOf
-whole x input h = both (ltb (x .fed .number) (x .upto)) (isWhole (nextIn (drop (x .fed .used) input))) h .1
+whole x input h = h
 
 -- room for one line
 abbrev room : Fed → ℕ
@@ -58,8 +54,8 @@ pub stands : (x : Pacing) (input : List ℕ) → Holds (moreOf x input) → (x .
 stands x input h = more-says (x .fed) input (room (x .fed)) (taken (x .fed) input (whole x input h))
 
 -- ---- one turn of the definition
-abbrev pub trail : List Session → Pacing → List ℕ → Trail
-trail row x kept = record { row = row; pacing = x; kept = kept }
+abbrev pub trail : List Session → Pacing → Trail
+trail row x = record { row = row; pacing = x }
 
 -- a table out of order accepts nothing
 ordered : (t : Table) (c : Call) → isAccepted (answer t c) ≡ true → inOrder t ≡ true
@@ -68,9 +64,9 @@ ordered t c y = split (inOrder t) (λ e. e) (λ e. no-way y (ap (λ (b : Bool). 
 
 -- the pacing behind a record, by its parts
 abbrev pacing-by : Pacing → Head → ℕ → Pace → Pacing
-pacing-by x head used pace = record { fed = record { head = head; number = numbered (x .fed .number); used = used; written = x .fed .written }; upto = x .upto; pace = pace; label = x .label }
+pacing-by x head used pace = record { fed = record { head = head; number = numbered (x .fed .number); used = used; written = x .fed .written }; pace = pace; label = x .label }
 
-module _ (input : List ℕ) (row : List Session) (x : Pacing) (kept : List ℕ) (r : Record) (o : Outcome) (zs : List Session) where
+module _ (input : List ℕ) (row : List Session) (x : Pacing) (r : Record) (o : Outcome) (zs : List Session) where
   abbrev t : Table
   t = tableOf row (x .fed .head)
 
@@ -99,9 +95,9 @@ module _ (input : List ℕ) (row : List Session) (x : Pacing) (kept : List ℕ) 
 
   -- what comes of a record, from the step
   turn-by : r ≡ recordIn (drop (x .fed .used) input) → Steps row (x .fed .head) c (record { outcome = o; row = zs }) → Whole o
-      → (y : Pacing) (ks : List ℕ) → record { pacing = y; kept = ks } ≡ keptBy kept x input r (toldBy note o) → Holds (moreOf x input) → trail zs y ks ≡ turnOf input (trail row x kept)
+      → (y : Pacing) → y ≡ keptBy x input r (toldBy note o) → Holds (moreOf x input) → trail zs y ≡ turnOf input (trail row x)
   unfolding turnOf keptBy callIn
-  turn-by e w n y ks a h =
+  turn-by e w n y a h =
       let s = drop (x .fed .used) input in
       let acc : isAccepted (answer t c) ≡ eqb (o .answer) 0 = sym (ap isAccepted (w .0)) ∙ said-accepted 0 o n r body in
       let same : c ≡ callNext input (x .fed) = ap (λ (q : Record). callOf q (bodyIn s (q .size))) e in
@@ -109,33 +105,33 @@ module _ (input : List ℕ) (row : List Session) (x : Pacing) (kept : List ℕ) 
       let end : ℕ = x .fed .used + sizeOf (nextIn s) in
       let used : behindOf (length input) (x .fed .used) (r .size) ≡ end =
       ap (λ (q : Record). behindOf (length input) (x .fed .used) (q .size)) e ∙ behind-is (x .fed) input (room (x .fed)) (taken (x .fed) input (whole x input h)) in
-      ap (λ (b : Behind). trail zs (b .pacing) (b .kept)) a
-      ∙ ap (λ (u : ℕ). trail zs (pacing-by x (o .head) u old) kept) used
-      ∙ ap (λ (m : Pace). trail zs (pacing-by x (o .head) end m) kept) (pace-is acc)
-      ∙ ap (λ (q : Table). trail (q .row) (pacing-by x (headOf q) end (pace c)) kept) (w .1)
-      ∙ ap (λ (d : Call). trail (next t d .row) (pacing-by x (headOf (next t d)) end (pace d)) kept) same
+      ap (trail zs) a
+      ∙ ap (λ (u : ℕ). trail zs (pacing-by x (o .head) u old)) used
+      ∙ ap (λ (m : Pace). trail zs (pacing-by x (o .head) end m)) (pace-is acc)
+      ∙ ap (λ (q : Table). trail (q .row) (pacing-by x (headOf q) end (pace c))) (w .1)
+      ∙ ap (λ (d : Call). trail (next t d .row) (pacing-by x (headOf (next t d)) end (pace d))) same
 
 -- what is read at its place is the record
 read : (x : Pacing) (input : List ℕ) → Holds (moreOf x input) → recordFrom (drop (x .fed .used) input) ≡ recordIn (drop (x .fed .used) input)
 read x input h = record-read (x .fed) input (room (x .fed)) (taken (x .fed) input (whole x input h))
 
 -- a record, its call and what it notes are one turn
-pub is-turn : (input : List ℕ) (row : List Session) (x : Pacing) (kept : List ℕ) (sound : Bool) (r : Record) → r ≡ recordFrom (drop (x .fed .used) input) → (t : Paced) (zs : List Session) → Paces row x r input sound t zs
-    → (y : Pacing) (ks : List ℕ) → record { pacing = y; kept = ks } ≡ keptBy kept x input r t
-    → sound ≡ inOrder (tableOf row (x .fed .head)) → Holds (moreOf x input) → length input < 2 ^ 64 → length row < 2 ^ 64 → trail zs y ks ≡ turnOf input (trail row x kept)
-is-turn input row x kept sound r e t zs paced y ks a mark h short long =
+pub is-turn : (input : List ℕ) (row : List Session) (x : Pacing) (sound : Bool) (r : Record) → r ≡ recordFrom (drop (x .fed .used) input) → (t : Paced) (zs : List Session) → Paces row x r input sound t zs
+    → (y : Pacing) → y ≡ keptBy x input r t
+    → sound ≡ inOrder (tableOf row (x .fed .head)) → Holds (moreOf x input) → length input < 2 ^ 64 → length row < 2 ^ 64 → trail zs y ≡ turnOf input (trail row x)
+is-turn input row x sound r e t zs paced y a mark h short long =
     let o = paced .0 in
     let w = paced .1 mark (stands x input h .0) short long in
-    turn-by input row x kept r o zs (e ∙ read x input h) (w .0) (w .1) y ks (a ∙ ap (keptBy kept x input r) (paced .2)) h
+    turn-by input row x r o zs (e ∙ read x input h) (w .0) (w .1) y (a ∙ ap (keptBy x input r) (paced .2)) h
 
 -- octets are taken, whatever is known of the row
-pub turn-takes : (input : List ℕ) (x : Pacing) (kept : List ℕ) (r : Record) → r ≡ recordFrom (drop (x .fed .used) input) → (t : Paced) (y : Pacing) (ks : List ℕ) → record { pacing = y; kept = ks } ≡ keptBy kept x input r t
+pub turn-takes : (input : List ℕ) (x : Pacing) (r : Record) → r ≡ recordFrom (drop (x .fed .used) input) → (t : Paced) (y : Pacing) → y ≡ keptBy x input r t
     → Holds (moreOf x input) → x .fed .used < y .fed .used
 unfolding keptBy
-turn-takes input x kept r e t y ks a h =
+turn-takes input x r e t y a h =
     let s = drop (x .fed .used) input in
     let used : y .fed .used ≡ x .fed .used + sizeOf (nextIn s) =
-    ap (λ (b : Behind). b .pacing .fed .used) a ∙ ap (λ (q : Record). behindOf (length input) (x .fed .used) (q .size)) (e ∙ read x input h) ∙ behind-is (x .fed) input (room (x .fed)) (taken (x .fed) input (whole x input h)) in
+    ap (λ (b : Pacing). b .fed .used) a ∙ ap (λ (q : Record). behindOf (length input) (x .fed .used) (q .size)) (e ∙ read x input h) ∙ behind-is (x .fed) input (room (x .fed)) (taken (x .fed) input (whole x input h)) in
     omega (arith, used, stands x input h .1)
 
 -- ---- 26 is asked once: the mark of a row is its mark after a turn
@@ -153,6 +149,6 @@ pub goes-on : (input : List ℕ) (n : ℕ) (x : Trail) → Holds (moreOf (x .pac
 unfolding goOn
 goes-on input n x h = ap (λ (b : Bool). cond b (goOn input n (turnOf input x)) x) (held-is (moreOf (x .pacing) input) h)
 
-pub begins : (row : List Session) (x : Pacing) (input kept : List ℕ) → goOn input (length input) (trail row x kept) ≡ paceOf row x input kept
+pub begins : (row : List Session) (x : Pacing) (input : List ℕ) → goOn input (length input) (trail row x) ≡ paceOf row x input
 unfolding paceOf
-begins row x input kept = refl
+begins row x input = refl

@@ -18,7 +18,7 @@ use Rattle.interval.specs.declared.Pace.{Pace}
 use Rattle.pace.specs.declared.Pacing.{Pacing}
 use Rattle.pace.specs.declared.calls.Paced.{Paced}
 use Rattle.pace.specs.Pacing.{moreOf}
-use Rattle.pace.specs.Calling.{setSought, noteOf, toldBy, Paces, Behind, keptBy, Turns}
+use Rattle.pace.specs.Calling.{setSought, noteOf, toldBy, Paces, keptBy, Turns}
 use Rattle.walks.proofs.Plain.{Plain, boolP, u64P, u32P}
 use Rattle.row.proofs.Plains.{sessionP, outcomeP}
 use Rattle.feed.proofs.FedPlain.{fedP}
@@ -31,10 +31,6 @@ use Rattle.pace.proofs.Turns.{is-turn, turn-takes}
 -- whether the record is of the kind that is meant
 abbrev Meant : Bool → Record → Type 0
 Meant b r = eqb (r .kind) 5 ≡ b
-
--- what is known behind a record, and what is kept
-abbrev behind : Pacing → List ℕ → Behind
-behind y kept = record { pacing = y; kept = kept }
 
 module _ (b : Bool) where
   pub noted : (ys : List Session) (sound : Bool) (x : Pacing) (r : Record) (m : List ℕ) → length ys < 2 ^ 64 → length m < 2 ^ 64
@@ -64,17 +60,17 @@ module _ (b : Bool) where
   }
 
   pub turned : (ys : List Session) (kept : List ℕ) (sound : Bool) (x : Pacing) (m : List ℕ) → length ys < 2 ^ 64 → length kept < 2 ^ 64 → length m < 2 ^ 64 → (r : Record) → r ≡ recordFrom (drop (x .fed .used) m)
-      → (t : Paced) (zs : List Session) → (Meant b r → Paces ys x r m sound t zs) → length zs ≡ length ys → (y : Pacing) (ks : List ℕ) → behind y ks ≡ keptBy kept x m r t → messageNext m (x .fed) ≡ b → Turns ys kept sound x m y zs ks
+      → (t : Paced) (zs : List Session) → (Meant b r → Paces ys x r m sound t zs) → length zs ≡ length ys → (y : Pacing) (ks : List ℕ) → y ≡ keptBy x m r t → messageNext m (x .fed) ≡ b → Turns ys sound x m y zs
   turned ys kept sound x m long _ short r er t zs paced _ y ks e brings more =
       let meant : Meant b r = ap (λ (q : Record). eqb (q .kind) 5) er ∙ brings in
       let h : Holds (moreOf x m) = subst (λ (b : Bool). Holds b) (sym more) tt in
-      (turn-takes m x kept r er t y ks e h, λ mark. is-turn m ys x kept sound r er t zs (paced meant) y ks e mark h short long)
+      (turn-takes m x r er t y e h, λ mark. is-turn m ys x sound r er t zs (paced meant) y e mark h short long)
 
   abbrev pub turns : one.Turn sessionP boolP pacingP recordP pacedP
   turns = record {
     next = λ m x. recordFrom (drop (x .fed .used) m);
     Did = λ ys sound x r m t zs. Meant b r → Paces ys x r m sound t zs;
-    Wrote = λ kept x m r t y ks. behind y ks ≡ keptBy kept x m r t;
-    Said = λ ys kept sound x m y zs ks. messageNext m (x .fed) ≡ b → Turns ys kept sound x m y zs ks;
+    Wrote = λ kept x m r t y ks. y ≡ keptBy x m r t;
+    Said = λ ys kept sound x m y zs ks. messageNext m (x .fed) ≡ b → Turns ys sound x m y zs;
     says = turned;
   }

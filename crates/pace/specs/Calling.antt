@@ -38,27 +38,18 @@ abbrev pub Paces : List Session → Pacing → Record → List ℕ → Bool → 
 Paces row x r input sound t zs =
     (o : Outcome) × Calls row (x .fed) r input sound o zs × (t ≡ toldBy (noteOf (getD row (firstHit (x .label) 0 (setSought x r) row) absent) x r input) o)
 
--- what is known behind a record, and the lent buffer
-pub record Behind : Type 0 where
-  pub pacing : Pacing
-  pub kept : List ℕ
-
-unfoldable pub keptBy : List ℕ → Pacing → List ℕ → Record → Paced → Behind
-keptBy kept x input r t =
+-- what is known behind a record
+unfoldable pub keptBy : Pacing → List ℕ → Record → Paced → Pacing
+keptBy x input r t =
     record {
-      pacing =
-          record {
-            fed = record { head = t .head; number = numbered (x .fed .number); used = behindOf (length input) (x .fed .used) (r .size); written = x .fed .written };
-            upto = x .upto;
-            pace = cond (eqb (t .answer) 0) (t .noted) (x .pace);
-            label = x .label;
-          };
-      kept = kept;
+      fed = record { head = t .head; number = numbered (x .fed .number); used = behindOf (length input) (x .fed .used) (r .size); written = x .fed .written };
+      pace = cond (eqb (t .answer) 0) (t .noted) (x .pace);
+      label = x .label;
     }
 
 -- a turn where a record stands next: it takes octets, and on a row of which it is known whether it is in order it is the definition's
-abbrev pub Turns : List Session → List ℕ → Bool → Pacing → List ℕ → Pacing → List Session → List ℕ → Type 0
-Turns row kept sound x input y zs ks =
+abbrev pub Turns : List Session → Bool → Pacing → List ℕ → Pacing → List Session → Type 0
+Turns row sound x input y zs =
     moreOf x input ≡ true
     → (x .fed .used < y .fed .used)
-    × (sound ≡ inOrder (tableOf row (x .fed .head)) → record { row = zs; pacing = y; kept = ks } ≡ turnOf input (record { row = row; pacing = x; kept = kept }))
+    × (sound ≡ inOrder (tableOf row (x .fed .head)) → record { row = zs; pacing = y } ≡ turnOf input (record { row = row; pacing = x }))

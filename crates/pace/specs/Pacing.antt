@@ -1,10 +1,9 @@
--- A piece of a capture read for the spacing of one label's heard CCs: as many whole records as there are, and no more than are asked for. Each record is one call on the
--- table, and what it is to the label is counted.
+-- A piece of a capture read for the spacing of one label's heard CCs: as many whole records as there are. Each is one call on the table, and what it is to the label is
+-- counted.
 -- Assumes nothing.
 use Prim.Native.Nat.{ℕ, zero, suc, _+_}
-use mathlib.Core.Bool.{Bool, cond, _&&_}
+use mathlib.Core.Bool.{Bool, cond}
 use mathlib.Core.List.{List}
-use lib.Dec.{ltb}
 use lib.ListN.{length, drop}
 use Rattle.session.specs.declared.Session.{Session}
 use Rattle.table.specs.Table.{next}
@@ -15,15 +14,14 @@ use Rattle.feed.specs.Feeding.{headOf, callNext}
 use Rattle.interval.specs.Pacing.{paced}
 use Rattle.pace.specs.declared.Pacing.{Pacing}
 
--- a whole record stands next, and it is asked for
+-- a whole record stands next
 unfoldable pub moreOf : Pacing → List ℕ → Bool
-moreOf x input = ltb (x .fed .number) (x .upto) && isWhole (nextIn (drop (x .fed .used) input))
+moreOf x input = isWhole (nextIn (drop (x .fed .used) input))
 
--- the row, how far it is fed with what is kept of the label, and the lent buffer, which stays as it is
+-- the row, and how far it is fed with what is kept of the label
 pub record Trail : Type 0 where
   pub row : List Session
   pub pacing : Pacing
-  pub kept : List ℕ
 
 -- one record more: the table's step, and what it is to the label
 unfoldable pub turnOf : List ℕ → Trail → Trail
@@ -37,11 +35,9 @@ turnOf input x =
       pacing =
           record {
             fed = record { head = headOf (next t c); number = numbered (f .number); used = f .used + sizeOf (nextIn (drop (f .used) input)); written = f .written };
-            upto = x .pacing .upto;
             pace = paced l (x .pacing .pace) t c;
             label = l;
           };
-      kept = x .kept;
     }
 
 -- at most n records more. Each takes octets of the input, so its length is enough for n
@@ -49,5 +45,5 @@ unfoldable pub goOn : List ℕ → ℕ → Trail → Trail
 goOn input zero x = x
 goOn input (suc n) x = cond (moreOf (x .pacing) input) (goOn input n (turnOf input x)) x
 
-unfoldable pub paceOf : List Session → Pacing → List ℕ → List ℕ → Trail
-paceOf row from input kept = goOn input (length input) (record { row = row; pacing = from; kept = kept })
+unfoldable pub paceOf : List Session → Pacing → List ℕ → Trail
+paceOf row from input = goOn input (length input) (record { row = row; pacing = from })

@@ -10,11 +10,18 @@ pub struct Asked {
     pub pacing: Pacing,
 }
 
-// The pacing of a table's own row.
-pub fn pace(t: Asked, input: &[u8], kept: &mut [u8]) -> Asked
-    ensures { λ r. ⌜ record { row = r .row; pacing = r .pacing; kept = now (kept .exit) } ≡ paceOf (t .row) (t .pacing) (now (input .entry)) (now (kept .entry)) ⌝ }
+fn pace_own(t: Asked, input: &[u8], none: &mut [u8]) -> Asked
+    ensures { λ r. ⌜ record { row = r .row; pacing = r .pacing } ≡ paceOf (t .row) (t .pacing) (now (input .entry)) ⌝ }
 {
     let mut row = t.row;
-    let pacing = pace_row(&mut row, t.pacing, input, kept);
+    let pacing = pace_row(&mut row, t.pacing, input, none);
     Asked { row, pacing }
+}
+
+// The pacing of a table's own row.
+pub fn pace(t: Asked, input: &[u8]) -> Asked
+    ensures { λ r. ⌜ record { row = r .row; pacing = r .pacing } ≡ paceOf (t .row) (t .pacing) (now (input .entry)) ⌝ }
+{
+    let mut none = [0u8; 0];
+    pace_own(t, input, &mut none)
 }

@@ -1,6 +1,6 @@
 // A capture read for the spacing of one label's heard CCs: each record is a call on the lent row, as a
-// feed makes it, and what it is to the label is counted. The lent buffer stays as it is: it is handed
-// through because loops of one shape share one proof. 26 is asked once, as in a feed.
+// feed makes it, and what it is to the label is counted. 26 is asked once, as in a feed. An empty
+// buffer is handed through: loops of one shape share one proof.
 mod asked;
 mod calls;
 mod records;
@@ -28,11 +28,10 @@ ghost use Rattle.feed.specs.Calling.{messageNext};
 ghost use Rattle.pace.specs.Pacing.{paceOf};
 ghost use Rattle.pace.specs.Calling.{Turns};
 
-// How far a table is fed, after how many records it is asked, the label that is asked about, and what
-// is kept of it: its last heard CC and the account of its spacing errors.
+// How far a table is fed, the label that is asked about, and what is kept of it: its last heard CC and
+// the account of its spacing errors.
 pub struct Pacing {
     pub fed: Fed,
-    pub upto: u64,
     pub pace: Pace,
     pub label: u32,
 }
@@ -41,78 +40,78 @@ pub struct Pacing {
 fn message_turn(
     row: &mut [Session],
     hints: &mut [u8],
-    kept: &mut [u8],
+    none: &mut [u8],
     sound: bool,
     x: Pacing,
     input: &[u8],
 ) -> Pacing
-    ensures { λ y. ⌜ ((messageNext (now (input .entry)) (x .fed) ≡ true) → Turns (now (row .entry)) (now (kept .entry)) sound x (now (input .entry)) y (now (row .exit)) (now (kept .exit))) ⌝ }
+    ensures { λ y. ⌜ ((messageNext (now (input .entry)) (x .fed) ≡ true) → Turns (now (row .entry)) sound x (now (input .entry)) y (now (row .exit))) ⌝ }
 {
     let r = record_next(input, x);
     let t = message_paced(row, hints, sound, x, r, input);
-    keep(kept, x, input, r, t)
+    keep(none, x, input, r, t)
 }
 
 // Any other record.
 fn other_turn(
     row: &mut [Session],
     hints: &mut [u8],
-    kept: &mut [u8],
+    none: &mut [u8],
     sound: bool,
     x: Pacing,
     input: &[u8],
 ) -> Pacing
-    ensures { λ y. ⌜ ((messageNext (now (input .entry)) (x .fed) ≡ false) → Turns (now (row .entry)) (now (kept .entry)) sound x (now (input .entry)) y (now (row .exit)) (now (kept .exit))) ⌝ }
+    ensures { λ y. ⌜ ((messageNext (now (input .entry)) (x .fed) ≡ false) → Turns (now (row .entry)) sound x (now (input .entry)) y (now (row .exit))) ⌝ }
 {
     let r = record_next(input, x);
     let t = other_paced(row, hints, sound, x, r, input);
-    keep(kept, x, input, r, t)
+    keep(none, x, input, r, t)
 }
 
 // One record. It takes octets of the input, whatever `sound` is.
 fn turn(
     row: &mut [Session],
     hints: &mut [u8],
-    kept: &mut [u8],
+    none: &mut [u8],
     sound: bool,
     x: Pacing,
     input: &[u8],
 ) -> Pacing
-    ensures { λ y. ⌜ Turns (now (row .entry)) (now (kept .entry)) sound x (now (input .entry)) y (now (row .exit)) (now (kept .exit)) ⌝ }
+    ensures { λ y. ⌜ Turns (now (row .entry)) sound x (now (input .entry)) y (now (row .exit)) ⌝ }
 {
     if brings_message(input, x) {
-        return message_turn(row, hints, kept, sound, x, input);
+        return message_turn(row, hints, none, sound, x, input);
     }
-    other_turn(row, hints, kept, sound, x, input)
+    other_turn(row, hints, none, sound, x, input)
 }
 
 // The records, one after the other. `sound` is whether the row is in order.
 fn pace_known(
     row: &mut [Session],
     hints: &mut [u8],
-    kept: &mut [u8],
+    none: &mut [u8],
     sound: bool,
     from: Pacing,
     input: &[u8],
 ) -> Pacing
-    ensures { λ x. ⌜ ((sound ≡ inOrder (tableOf (now (row .entry)) (from .fed .head))) → (record { row = now (row .exit); pacing = x; kept = now (kept .exit) } ≡ paceOf (now (row .entry)) from (now (input .entry)) (now (kept .entry)))) ⌝ }
+    ensures { λ x. ⌜ ((sound ≡ inOrder (tableOf (now (row .entry)) (from .fed .head))) → (record { row = now (row .exit); pacing = x } ≡ paceOf (now (row .entry)) from (now (input .entry)))) ⌝ }
 {
     let mut x = from;
-    while more(x, input, kept.len()) {
-        let next = turn(&mut *row, &mut *hints, &mut *kept, sound, x, input);
+    while more(x, input, none.len()) {
+        let next = turn(&mut *row, &mut *hints, &mut *none, sound, x, input);
         x = next;
     }
     x
 }
 
-// As many whole records as stand in the input, and no more than are asked for.
-pub fn pace_row(row: &mut [Session], from: Pacing, input: &[u8], kept: &mut [u8]) -> Pacing
-    ensures { λ x. ⌜ record { row = now (row .exit); pacing = x; kept = now (kept .exit) } ≡ paceOf (now (row .entry)) from (now (input .entry)) (now (kept .entry)) ⌝ }
+// As many whole records as stand in the input. 26 is asked once, before the first of them.
+fn pace_row(row: &mut [Session], from: Pacing, input: &[u8], none: &mut [u8]) -> Pacing
+    ensures { λ x. ⌜ record { row = now (row .exit); pacing = x } ≡ paceOf (now (row .entry)) from (now (input .entry)) ⌝ }
 {
     let head = head_of(from);
     let sought = nothing_sought();
     let s = scan_row(&*row, head, sought);
     let sound = sound_of(s);
     let mut hints = [0u8; 256];
-    pace_known(row, &mut hints, kept, sound, from, input)
+    pace_known(row, &mut hints, none, sound, from, input)
 }

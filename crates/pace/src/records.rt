@@ -13,7 +13,6 @@ use feed::number_after;
 use interval::Pace;
 use interval::event_of;
 use interval::pace_by;
-use octets::both;
 use session::Session;
 use step::Outcome;
 use table::Head;
@@ -25,15 +24,12 @@ ghost use Rattle.feed.specs.Calling.{messageNext};
 ghost use Rattle.pace.specs.Pacing.{moreOf};
 ghost use Rattle.pace.specs.Calling.{setSought, noteOf, toldBy, keptBy};
 
-// A whole record stands next, and it is asked for. The buffer's length is not asked: it is handed in
-// because loops of one shape share one proof.
+// A whole record stands next. The buffer's length is not asked: it is handed in because loops of one
+// shape share one proof.
 pub fn more(x: Pacing, input: &[u8], _room: usize) -> bool
     ensures { λ r. ⌜ r ≡ moreOf x (now (input .entry)) ⌝ }
 {
-    both(
-        x.fed.number < x.upto,
-        is_whole(next_record(input, x.fed.used)),
-    )
+    is_whole(next_record(input, x.fed.used))
 }
 
 // Whether the record that stands next brings a message.
@@ -125,8 +121,8 @@ fn pace_if(test: bool, noted: Pace, old: Pace) -> Pace
 
 // What is known behind the record: a refused one counts for nothing. The buffer is not written to: it
 // is handed in because loops of one shape share one proof.
-pub fn keep(_kept: &mut [u8], x: Pacing, input: &[u8], r: Record, t: Paced) -> Pacing
-    ensures { λ y. ⌜ record { pacing = y; kept = now («_kept» .exit) } ≡ keptBy (now («_kept» .entry)) x (now (input .entry)) r t ⌝ }
+pub fn keep(_none: &mut [u8], x: Pacing, input: &[u8], r: Record, t: Paced) -> Pacing
+    ensures { λ y. ⌜ y ≡ keptBy x (now (input .entry)) r t ⌝ }
 {
     let accepted = t.answer == 0;
     let head = t.head;
@@ -141,7 +137,6 @@ pub fn keep(_kept: &mut [u8], x: Pacing, input: &[u8], r: Record, t: Paced) -> P
     };
     Pacing {
         fed: fed,
-        upto: x.upto,
         pace: pace,
         label: x.label,
     }

@@ -18,14 +18,13 @@ returns c =
 
 returns-2 : tie.Need-returns-2
 returns-2 c =
-    let t = c .before .before .before in
-    let b = t .before .before in
-    let m = b .before in
-    let e = m .before in
+    let t = c .before .before in
+    let b = t .before in
+    let e = b .before in
     let h = e .before in
     let s = h .before .before .args in
-    spaces (s .capture .now) _ _ (s .label) (sym (h .header-fits .ensures) ∙ not-false (h .header-fits .result) (e .if1 .left))
-    (m .most-records .result) (m .most-records .ensures) (b .begin .result) (b .begin .ensures) (t .pace .result) (t .pace .ensures)
+    spaces (s .capture .now) (s .label) (sym (h .header-fits .ensures) ∙ not-false (h .header-fits .result) (e .if1 .left))
+    (b .begin .result) (b .begin .ensures) (t .pace .result) (t .pace .ensures)
     (c .finish2 .result) (c .finish2 .ensures)
 
 pub spacing-spec : {M : Type 1} → statement M
@@ -37,8 +36,6 @@ spacing-spec =
     (λ c κs. search needs)
     returns
     (λ c κs. search needs)
-    (λ c κs. search needs)
-    (λ c. search needs)
     (λ c κs. search needs)
     (λ c κs. search needs)
     returns-2)

@@ -38,7 +38,7 @@ Stage = over.Stage sessionP boolP pacingP
 
 -- a stage as the definitions have it, and whether its row is in order
 abbrev trail-of : Stage → Trail
-trail-of x = record { row = x .row; pacing = x .held; kept = x .out }
+trail-of x = record { row = x .row; pacing = x .held }
 
 abbrev order-of : Stage → Bool
 order-of x = inOrder (tableOf (x .row) (x .held .fed .head))
@@ -49,13 +49,13 @@ Turn mark input x y = moreOf (x .held) input ≡ true → (x .held .fed .used < 
 
 -- n is enough for what is left of the input; and where the mark was right it is still, and what is left to do gives what the whole gives
 abbrev After : Bool → List ℕ → Stage → ℕ → Stage → Type 0
-After mark input z n x = (length input ≤ x .held .fed .used + n) × (mark ≡ order-of z → (mark ≡ order-of x) × (goOn input n (trail-of x) ≡ paceOf (z .row) (z .held) input (z .out)))
+After mark input z n x = (length input ≤ x .held .fed .used + n) × (mark ≡ order-of z → (mark ≡ order-of x) × (goOn input n (trail-of x) ≡ paceOf (z .row) (z .held) input))
 
 abbrev Said : Bool → List ℕ → Stage → Stage → Type 0
-Said mark input z x = mark ≡ order-of z → trail-of x ≡ paceOf (z .row) (z .held) input (z .out)
+Said mark input z x = mark ≡ order-of z → trail-of x ≡ paceOf (z .row) (z .held) input
 
 pub at-first : (mark : Bool) (input : List ℕ) (z : Stage) → After mark input z (length input) z
-at-first mark input z = (omega arith, λ right. (right, begins (z .row) (z .held) input (z .out)))
+at-first mark input z = (omega arith, λ right. (right, begins (z .row) (z .held) input))
 
 pub goes-one : (mark : Bool) (input : List ℕ) (z : Stage) (n : ℕ) (x y : Stage) → length input < 2 ^ 64 → length (x .row) < 2 ^ 64
     → After mark input z n x → Holds (moreOf (x .held) input) → Turn mark input x y → After mark input z (n - 1) y × (n - 1 < n)

@@ -53,14 +53,14 @@ abbrev nothing : Target
 nothing = record { label = 0; discriminator = 0 }
 
 abbrev trail-of : Stage → Trail
-trail-of x = record { row = x .row; pacing = x .held; kept = x .out }
+trail-of x = record { row = x .row; pacing = x .held }
 
 -- what `pace_known` says
 abbrev Known : Bool → List ℕ → Stage → Stage → Type 0
-Known mark input z x = mark ≡ inOrder (tableOf (z .row) (z .held .fed .head)) → trail-of x ≡ paceOf (z .row) (z .held) input (z .out)
+Known mark input z x = mark ≡ inOrder (tableOf (z .row) (z .held .fed .head)) → trail-of x ≡ paceOf (z .row) (z .held) input
 
 abbrev Said : List ℕ → List Session → Pacing → List ℕ → List Session → Pacing → List ℕ → Type 0
-Said input ys z os zs y ps = record { row = zs; pacing = y; kept = ps } ≡ paceOf ys z input os
+Said input ys z os zs y ps = record { row = zs; pacing = y } ≡ paceOf ys z input
 
 -- the scan's mark is right
 pub in-order : (input : List ℕ) (ys : List Session) (z : Pacing) (os : List ℕ) (y : Stage) → Known (summaryOf ys (z .fed .head) nothing .sound) input (record { row = ys; hints = replicate 256 0; out = os; held = z }) y → Said input ys z os (y .row) (y .held) (y .out)

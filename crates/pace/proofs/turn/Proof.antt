@@ -36,9 +36,9 @@ spelled p = spell pieces.table (pointee (p .T .written))
 abbrev laws : way.Either sessionP boolP pacingP
 laws = record {
   test = λ m x. messageNext m (x .fed);
-  Yes = λ ys kept sound x m y zs ks. messageNext m (x .fed) ≡ true → Turns ys kept sound x m y zs ks;
-  No = λ ys kept sound x m y zs ks. messageNext m (x .fed) ≡ false → Turns ys kept sound x m y zs ks;
-  Said = Turns;
+  Yes = λ ys kept sound x m y zs ks. messageNext m (x .fed) ≡ true → Turns ys sound x m y zs;
+  No = λ ys kept sound x m y zs ks. messageNext m (x .fed) ≡ false → Turns ys sound x m y zs;
+  Said = λ ys kept sound x m y zs ks. Turns ys sound x m y zs;
   says-yes = λ ys out sound f m k g zs ps say. say k;
   says-no = λ ys out sound f m k g zs ps say. say k;
 }

@@ -5,13 +5,7 @@ use Rattle.pace.proofs.records.more.Tie as tie
 
 returns : tie.Need-returns
 unfolding moreOf
-returns c = rw (c .both .ensures, c .before .is-whole .ensures, c .before .before .next-record .ensures)
+returns c = rw (c .is-whole .ensures, c .before .next-record .ensures)
 
 pub more-spec : {M : Type 1} → statement M
-more-spec =
-    tie.close
-    (tie.spec
-    (λ c κs. search needs)
-    (λ c κs. search needs)
-    (λ c κs. search needs)
-    returns)
+more-spec = tie.close (tie.spec (λ c κs. search needs) (λ c κs. search needs) returns)
