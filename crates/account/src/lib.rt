@@ -7,7 +7,7 @@ use numbers::greatest_of;
 use numbers::least_of;
 use numbers::negative;
 use numbers::positive;
-use numbers::size_of;
+pub use numbers::size_of;
 use numbers::sum_in;
 use numbers::total;
 ghost use mathlib.Core.Path.{_≡_};

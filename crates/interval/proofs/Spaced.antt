@@ -86,7 +86,7 @@ run-account l x ds a (c ∷ cs) =
     ∙ ap (λ (o : Option ℕ). accountOf (exact ((ds ++ es) ++ errorsOver l o (next (x .table) c) cs))) (on-last l (x .pace) (x .table) c)
     ∙ ap (λ (fs : List ℤ). accountOf (exact fs)) (together ds es (errorsOver l (lastOn l (lastIn (x .pace)) (x .table) c) (next (x .table) c) cs))
 
-run-append : (l : ℕ) (x : Run) (cs ds : List Call) → runAll l x (cs ++ ds) ≡ runAll l (runAll l x cs) ds
+pub run-append : (l : ℕ) (x : Run) (cs ds : List Call) → runAll l x (cs ++ ds) ≡ runAll l (runAll l x cs) ds
 unfolding runAll
 run-append l x [] ds = refl
 run-append l x (c ∷ cs) ds = run-append l (runStep l x c) cs ds

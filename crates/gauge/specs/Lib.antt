@@ -1,0 +1,3 @@
+pub mod Words
+pub mod Gauging
+pub mod Held
