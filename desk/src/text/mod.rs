@@ -8,9 +8,9 @@ pub mod answers;
 mod assemble;
 mod digits;
 mod messages;
-pub mod records;
+pub(crate) mod records;
 mod remark;
-pub mod words;
+pub(crate) mod words;
 mod writer;
 
 pub use assemble::run_assemble;
