@@ -58,7 +58,7 @@ fn open_labels(capture: &[u8]) -> Vec<u32> {
 
 /// The captures with worked spacings, and made ones.
 fn captures() -> Vec<(String, Vec<u8>)> {
-    let folder = package().join("../peer/tests/spacings");
+    let folder = package().join("../crates/spacings/data");
     let paths = std::fs::read_dir(folder).expect("a folder");
     let paths = paths.map(|entry| entry.expect("an entry").path());
     let stored = paths.filter(|path| path.extension().is_some_and(|end| end == "capture"));
@@ -96,7 +96,7 @@ fn events_show_what_spacing_says_of_the_whole_capture() {
 
 #[test]
 fn the_worked_captures_as_they_are_shown() {
-    let path = package().join("../peer/tests/spacings/several_labels.capture");
+    let path = package().join("../crates/spacings/data/several_labels.capture");
     let path = path.to_str().expect("UTF-8");
     let printed = printed(&["events", path, "--spacing", "--no-causes"]);
     let printed = String::from_utf8(printed).expect("UTF-8");
@@ -223,7 +223,7 @@ fn many_pairs_are_shown_by_their_means() {
 
 #[test]
 fn what_does_not_fit_is_said() {
-    let path = package().join("../peer/tests/spacings/above_and_on.capture");
+    let path = package().join("../crates/spacings/data/above_and_on.capture");
     let capture = std::fs::read(path).expect("a capture");
     let page = page("above_and_on", &capture);
     assert!(page.contains("refused 21: a number does not fit"));
@@ -235,7 +235,7 @@ fn what_does_not_fit_is_said() {
 #[test]
 fn without_the_program_it_is_said() {
     let folder = folder_of_two("programs-without-spacing");
-    let path = package().join("../peer/tests/spacings/early_and_late.capture");
+    let path = package().join("../crates/spacings/data/early_and_late.capture");
     let path = path.to_str().expect("UTF-8");
     let output = desk_with(&folder, &["events", path, "--spacing"]);
     let said = String::from_utf8_lossy(&output.stderr).into_owned();
@@ -263,7 +263,7 @@ fn without_the_program_it_is_said() {
 
 #[test]
 fn a_program_that_does_not_answer_is_told_of() {
-    let path = package().join("../peer/tests/spacings/early_and_late.capture");
+    let path = package().join("../crates/spacings/data/early_and_late.capture");
     let path = path.to_str().expect("UTF-8");
     for (name, line, expected) in [
         (
@@ -301,7 +301,7 @@ fn run_when_free(folder: &Path, words: &[&str]) -> std::process::Output {
 
 #[test]
 fn spacing_is_of_the_whole_capture() {
-    let path = package().join("../peer/tests/spacings/early_and_late.capture");
+    let path = package().join("../crates/spacings/data/early_and_late.capture");
     let path = path.to_str().expect("UTF-8");
     for words in [["--from", "1"], ["--to", "9"]] {
         let output = desk(&[&["events", path, "--spacing"], &words[..]].concat());

@@ -9,7 +9,7 @@ use std::fs;
 use std::path::PathBuf;
 
 fn folder() -> PathBuf {
-    PathBuf::from(env!("CARGO_MANIFEST_DIR")).join("tests/spacings")
+    PathBuf::from(env!("CARGO_MANIFEST_DIR")).join("../crates/spacings/data")
 }
 
 /// The names of the files that end in `.ending`.
