@@ -2,10 +2,7 @@
 // that they give to standard output. What a record does not carry comes from the arguments.
 mod input;
 mod line;
-mod output;
 mod words;
-
-use output::write_text;
 
 // One octet more than a list of entries may have.
 fn answer(w: words::Words, out: &mut [u8]) -> usize {
@@ -28,9 +25,9 @@ fn main() {
     let w = words::all_words();
     if w.good {
         let n = answer(w, &mut out);
-        write_text(&out, n);
+        syscall::write_text(b"provision", &out, n, 0);
     } else {
         let n = line::put_usage(&mut out);
-        write_text(&out, n);
+        syscall::write_text(b"provision", &out, n, 0);
     }
 }

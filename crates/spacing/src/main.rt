@@ -4,7 +4,6 @@
 use gauge::Gauge;
 use inquiry::Question;
 use libc::STDIN_FILENO;
-use libc::STDOUT_FILENO;
 use octets::both;
 ghost use mathlib.Core.Path.{_≡_};
 ghost use mathlib.Core.Bool.{false};
@@ -22,12 +21,6 @@ struct Looked {
     gauge: Gauge,
     go: bool,
     known: bool,
-}
-
-// The place behind what was written, and whether another write is to be made.
-struct Written {
-    from: usize,
-    go: bool,
 }
 
 // ---- the label
@@ -123,46 +116,6 @@ fn run(label: u32, buf: &mut [u8]) -> Looked
 }
 
 // ---- the line
-// What one write answered. One that takes nothing gets no further: it has failed, with no error
-// number.
-fn after_write(from: usize, to: usize, took: isize, part: &[u8], number: u64) -> Written
-    requires { ⌜ Moved (length (now part)) took ⌝ }
-{
-    if took < 0 {
-        let go = syscall::is_again(b"spacing", true, os::errno(), number);
-        return Written { from: from, go: go };
-    }
-    if took == 0 {
-        let go = syscall::is_again(b"spacing", true, 0, number);
-        return Written { from: from, go: go };
-    }
-    let next = pump::advance(from, io::count(took, part), to);
-    Written {
-        from: next,
-        go: next < to,
-    }
-}
-
-// One write, of what is still to be written.
-fn write_on(from: usize, to: usize, out: &[u8], number: u64) -> Written {
-    let part = pump::part(out, from, to);
-    let took = libc::write(STDOUT_FILENO, part);
-    after_write(from, to, took, part, number)
-}
-
-// Write by write, until all is written or a write fails.
-fn write_text(out: &[u8], to: usize, number: u64) {
-    let mut from: usize = 0;
-    let mut go = true;
-    let mut turns = u64::MAX;
-    while turns > 0 && go {
-        let x = write_on(from, to, out, number);
-        from = x.from;
-        go = x.go;
-        turns -= 1;
-    }
-}
-
 // The line, once the numbers are known.
 fn put_line(out: &mut [u8], g: Gauge) -> usize
     ensures { λ r. ⌜ record { buffer = now (out .exit); at = r } ≡ typed (record { buffer = now (out .entry); at = 0 }) (textOf g) ⌝ }
@@ -177,7 +130,7 @@ fn answer(label: u32) {
     if x.known {
         let g = x.gauge;
         let n = put_line(&mut out, g);
-        write_text(&out, n, records_of(g));
+        syscall::write_text(b"spacing", &out, n, records_of(g));
     }
 }
 
@@ -188,6 +141,6 @@ fn main() {
     } else {
         let mut out = [0u8; 128];
         let n = gauge::put_usage(&mut out, 0);
-        write_text(&out, n, 0);
+        syscall::write_text(b"spacing", &out, n, 0);
     }
 }

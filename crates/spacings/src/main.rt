@@ -40,14 +40,24 @@ fn hold_line(line: &[u8], capture: &[u8]) -> bool {
     let word = octets::part(line, 0, first);
     let rest = octets::from_place(line, first);
     if check::same(octets::part(rest, 0, 4), b" => ") {
-        return hold_both(line, asking::number_of(word), capture, octets::from_place(rest, 4));
+        return hold_both(
+            line,
+            asking::number_of(word),
+            capture,
+            octets::from_place(rest, 4),
+        );
     }
     let behind = octets::from_place(rest, 1);
     let second = asking::space_from(behind, 0);
     let label = asking::number_of(octets::part(behind, 0, second));
     let n = asking::front_of(capture, asking::number_of(word));
     let front = octets::part(capture, 0, n);
-    hold_both(line, label, front, octets::from_place(octets::from_place(behind, second), 4))
+    hold_both(
+        line,
+        label,
+        front,
+        octets::from_place(octets::from_place(behind, second), 4),
+    )
 }
 
 // Every line; nothing more once one differs.
@@ -101,7 +111,13 @@ fn run_named(i: usize) {
     if !run_lines(&mut name, n, b".spacings", &capture[..size], b" labels") {
         say_unread(&name, n);
     }
-    run_lines(&mut name, n, b".fronts", &capture[..size], b" labels of first records");
+    run_lines(
+        &mut name,
+        n,
+        b".fronts",
+        &capture[..size],
+        b" labels of first records",
+    );
 }
 
 fn main() {

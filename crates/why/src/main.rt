@@ -5,7 +5,6 @@ use cause::Thing;
 use inquiry::Question;
 use inquiry::Search;
 use libc::STDIN_FILENO;
-use libc::STDOUT_FILENO;
 ghost use mathlib.Core.Path.{_≡_};
 ghost use mathlib.Core.Bool.{false};
 ghost use Prim.Native.Nat.{_≤_};
@@ -21,12 +20,6 @@ struct Looked {
     search: Search,
     go: bool,
     known: bool,
-}
-
-// The place behind what was written, and whether another write is to be made.
-struct Written {
-    from: usize,
-    go: bool,
 }
 
 // ---- the question
@@ -115,46 +108,6 @@ fn run(label: u32, upto: u64, buf: &mut [u8], kept: &mut [u8]) -> Looked
 }
 
 // ---- the answer
-// What one write answered. One that takes nothing gets no further: it has failed, with no error
-// number.
-fn after_write(from: usize, to: usize, took: isize, part: &[u8], number: u64) -> Written
-    requires { ⌜ Moved (length (now part)) took ⌝ }
-{
-    if took < 0 {
-        let go = syscall::is_again(b"why", true, os::errno(), number);
-        return Written { from: from, go: go };
-    }
-    if took == 0 {
-        let go = syscall::is_again(b"why", true, 0, number);
-        return Written { from: from, go: go };
-    }
-    let next = pump::advance(from, io::count(took, part), to);
-    Written {
-        from: next,
-        go: next < to,
-    }
-}
-
-// One write, of what is still to be written.
-fn write_on(from: usize, to: usize, out: &[u8], number: u64) -> Written {
-    let part = pump::part(out, from, to);
-    let took = libc::write(STDOUT_FILENO, part);
-    after_write(from, to, took, part, number)
-}
-
-// Write by write, until all is written or a write fails.
-fn write_text(out: &[u8], to: usize, number: u64) {
-    let mut from: usize = 0;
-    let mut go = true;
-    let mut turns = u64::MAX;
-    while turns > 0 && go {
-        let x = write_on(from, to, out, number);
-        from = x.from;
-        go = x.go;
-        turns -= 1;
-    }
-}
-
 // The text, once the answer is known.
 fn put_answer(out: &mut [u8], s: Search, buf: &[u8], kept: &[u8], thing: Thing) -> usize
     ensures { λ r. ⌜ record { buffer = now (out .exit); at = r } ≡ typed (record { buffer = now (out .entry); at = 0 }) (textOf (endedOf s) (now (buf .entry)) (now (kept .entry)) thing) ⌝ }
@@ -170,7 +123,7 @@ fn answer(q: Question) {
     if x.known {
         let s = x.search;
         let n = put_answer(&mut out, s, &buf, &kept, inquiry::thing_of(q));
-        write_text(&out, n, records_of(s));
+        syscall::write_text(b"why", &out, n, records_of(s));
     }
 }
 
@@ -181,6 +134,6 @@ fn main() {
     } else {
         let mut out = [0u8; 128];
         let n = inquiry::put_usage(&mut out, 0);
-        write_text(&out, n, 0);
+        syscall::write_text(b"why", &out, n, 0);
     }
 }

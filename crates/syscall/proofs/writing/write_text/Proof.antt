@@ -1,15 +1,15 @@
--- `why::write_text` meets its contract.
+-- `syscall::writing::write_text` meets its contract.
 -- Assumes nothing.
 use Prim.Native.Nat.{_≤_}
 use borrow.Author.Needs.{needs}
-use Rattle.why.proofs.write_text.Statement.{statement}
-use Rattle.why.proofs.write_text.Tie as tie
+use Rattle.syscall.proofs.writing.write_text.Statement.{statement}
+use Rattle.syscall.proofs.writing.write_text.Tie as tie
 
 abbrev Inv-loop : tie.InvT-loop
-Inv-loop out to number from₀ go₀ turns₀ from go turns = 0 ≤ from
+Inv-loop name out to number from₀ go₀ turns₀ from go turns = 0 ≤ from
 
 abbrev μ-loop : tie.MeasureT-loop
-μ-loop out to number from₀ go₀ turns₀ from go turns = turns
+μ-loop name out to number from₀ go₀ turns₀ from go turns = turns
 
 pub write-text-spec : {M : Type 1} → statement M
 write-text-spec =
