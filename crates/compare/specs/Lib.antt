@@ -1,5 +1,0 @@
-pub mod Differences
-pub mod Rest
-pub mod Walk
-pub mod Exactly
-pub mod Agreement

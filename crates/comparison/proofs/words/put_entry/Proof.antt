@@ -1,0 +1,18 @@
+-- `comparison::put_entry` meets its contract.
+-- Assumes nothing.
+use borrow.Author.Needs.{needs}
+use Rattle.capture.specs.Typing.{Put}
+use Rattle.capture.proofs.Typing.{then}
+use Rattle.comparison.specs.Words.{entryLine}
+use Rattle.comparison.proofs.words.put_entry.Statement.{statement}
+use Rattle.comparison.proofs.words.put_entry.Tie as tie
+
+pub put-entry-spec : {M : Type 1} → statement M
+unfolding entryLine
+put-entry-spec =
+    tie.close
+    (tie.spec
+    (λ c κs. search needs)
+    (λ c κs. search needs)
+    (λ c. search needs)
+    (λ c. let s = c .before .before .before .before .before .before .before .before .before .args in then (record { buffer = s .out .now; at = s .at }) _ _ (c .before .before .before .before .before .before .put-decimal .ensures) (c .before .before .put-code .ensures)))

@@ -1,0 +1,40 @@
+-- The lines for people: one for each entry, one for where the rest begins, one for a refusal.
+-- Assumes nothing.
+use Prim.Native.Nat.{ℕ, _/_, _%_}
+use mathlib.Core.Bool.{cond}
+use mathlib.Core.List.{List, [], _∷_, _++_}
+use lib.Dec.{eqb}
+use Rattle.capture.specs.Lines.{decimal}
+
+-- ` time`, ` label`, ` kind`, ` length`, ` body`, ` only in FIRST`, ` only in SECOND`, each to its line's end
+abbrev pub codeText : ℕ → List ℕ
+codeText code =
+    cond (eqb code 0) (32 ∷ 116 ∷ 105 ∷ 109 ∷ 101 ∷ 10 ∷ [])
+    (cond (eqb code 1) (32 ∷ 108 ∷ 97 ∷ 98 ∷ 101 ∷ 108 ∷ 10 ∷ [])
+    (cond (eqb code 2) (32 ∷ 107 ∷ 105 ∷ 110 ∷ 100 ∷ 10 ∷ [])
+    (cond (eqb code 3) (32 ∷ 108 ∷ 101 ∷ 110 ∷ 103 ∷ 116 ∷ 104 ∷ 10 ∷ [])
+    (cond (eqb code 4) (32 ∷ 98 ∷ 111 ∷ 100 ∷ 121 ∷ 10 ∷ [])
+    (cond (eqb code 5) (32 ∷ 111 ∷ 110 ∷ 108 ∷ 121 ∷ 32 ∷ 105 ∷ 110 ∷ 32 ∷ 70 ∷ 73 ∷ 82 ∷ 83 ∷ 84 ∷ 10 ∷ [])
+    (32 ∷ 111 ∷ 110 ∷ 108 ∷ 121 ∷ 32 ∷ 105 ∷ 110 ∷ 32 ∷ 83 ∷ 69 ∷ 67 ∷ 79 ∷ 78 ∷ 68 ∷ 10 ∷ []))))))
+
+-- `7 length`: the record's number and what differs
+unfoldable pub entryLine : ℕ → List ℕ
+entryLine e = decimal (e / 8) ++ codeText (e % 8)
+
+-- `rest `, `refused `
+abbrev pub wRest : List ℕ
+wRest = 114 ∷ 101 ∷ 115 ∷ 116 ∷ 32 ∷ []
+
+abbrev pub wRefused : List ℕ
+wRefused = 114 ∷ 101 ∷ 102 ∷ 117 ∷ 115 ∷ 101 ∷ 100 ∷ 32 ∷ []
+
+abbrev pub wEnd : List ℕ
+wEnd = 10 ∷ []
+
+-- `rest 43`: the octet of the first capture with which the rest begins; its length, where there is none
+unfoldable pub restLine : ℕ → List ℕ
+restLine place = wRest ++ (decimal place ++ wEnd)
+
+-- `refused 22`
+unfoldable pub refusedLine : ℕ → List ℕ
+refusedLine n = wRefused ++ (decimal n ++ wEnd)
