@@ -86,7 +86,10 @@ fn run() {
         say_unread(b"SECOND", b, second.len());
         return;
     }
-    tell(octets::part(&first, 0, a.size), octets::part(&second, 0, b.size));
+    tell(
+        octets::part(&first, 0, a.size),
+        octets::part(&second, 0, b.size),
+    );
 }
 
 fn main() {
