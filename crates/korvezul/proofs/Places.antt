@@ -24,6 +24,7 @@ use Rattle.fields.proofs.readers.CcRead.Laws.{mir as cc-read}
 use Rattle.fields.proofs.readers.CvRead.Laws.{mir as cv-read}
 use Rattle.fields.proofs.readers.MepIdRead.Laws.{mir as mep-id-read}
 use Rattle.fields.proofs.readers.FaultRead.Laws.{mir as fault-read}
+use Rattle.logging.proofs.Logged.Laws.{mir as logged}
 use Rattle.korvezul.proofs.provisioning.ConfigurationRead.Laws.{mir as configuration-read}
 
 -- a field that begins there
@@ -98,3 +99,6 @@ fault-read-laid = record { octets = refl; aligned = refl; fields = (refl, (refl,
 
 pub configuration-read-laid : Laid configuration-read 12 4 (0 ∷ 4 ∷ 8 ∷ [])
 configuration-read-laid = record { octets = refl; aligned = refl; fields = (refl, (refl, (refl, refl))) }
+
+pub logged-laid : Laid logged 16 8 (0 ∷ 8 ∷ 12 ∷ 14 ∷ [])
+logged-laid = record { octets = refl; aligned = refl; fields = (refl, (refl, (refl, (refl, refl)))) }

@@ -2,6 +2,7 @@
 // set of occupied places. Each call is one step of the table; a refusal changes nothing. No call
 // asks anything of its caller.
 mod answers;
+mod logs;
 mod messages;
 mod provisioning;
 mod requests;

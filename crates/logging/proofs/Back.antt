@@ -21,9 +21,14 @@ use Rattle.rules.specs.Calls.{Call, Open}
 use Rattle.rules.proofs.Bools.{or-cases, both-true}
 use Rattle.capture.specs.declared.Record.{Record}
 use Rattle.capture.specs.Records.{recordIn, bodyFits, settingsIn, callOf}
-use Rattle.log.specs.Records.{Logged as LogRecord, loggedIn, isWhole, wholeOf, answerIn, bodyIn}
+use Rattle.log.specs.Records.{Logged as LogRecord, loggedIn, headerFits, isWhole, wholeOf, answerIn, bodyIn}
 use Rattle.logging.specs.declared.Logged.{Logged}
-use Rattle.logging.specs.Logging.{headOctets, callFits, callRefusal, callOctets, isPlain, settingsHeld, mepOctets, bodyOctets, openingOf, openRefusal, openOctets}
+use Rattle.logging.specs.Logging.{headerOctets, headOctets, callFits, callRefusal, callOctets, isPlain, settingsHeld, mepOctets, bodyOctets, openingOf, openRefusal, openOctets}
+
+-- the header, whatever follows
+pub header-back : (rest : List ℕ) → headerFits (headerOctets ++ rest) ≡ true
+unfolding headerFits
+header-back rest = both-true (le-leb 8 (length (headerOctets ++ rest)) (omega (arith, length-append headerOctets rest))) refl
 
 -- the ranges of the code's own numbers
 pub record InRange (w : Logged) : Type 0 where

@@ -11,6 +11,10 @@ use Rattle.cv.specs.declared.MepId.{MepId}
 use Rattle.rules.specs.declared.Settings.{Settings}
 use Rattle.logging.specs.declared.Logged.{Logged}
 
+-- `TPL`, 16-bit version 1, three zero bytes
+abbrev pub headerOctets : List ℕ
+headerOctets = 84 ∷ 80 ∷ 76 ∷ 0 ∷ 1 ∷ 0 ∷ 0 ∷ 0 ∷ []
+
 abbrev pub headOctets : Logged → ℕ → List ℕ
 headOctets w size = octetsOf 8 (w .time) (octetsOf 4 (w .label) (octetsOf 2 (w .kind) (octetsOf 2 size (octetsOf 2 (w .answer) []))))
 
