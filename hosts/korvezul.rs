@@ -4,14 +4,27 @@
 use std::mem::{align_of, offset_of, size_of};
 
 pub const RECORDS: usize = 64;
-/// The version of the header that these declarations follow, 5.1.0.
-pub const VERSION: u32 = 0x050100;
+/// The version of the header that these declarations follow, 5.2.0.
+pub const VERSION: u32 = 0x050200;
 /// The modes of a session.
 pub const COORDINATED: u8 = 0;
 pub const SOURCE: u8 = 1;
 pub const SINK: u8 = 2;
 /// The longest plain CV.
 pub const CV_OCTETS: usize = 78;
+/// The octets before the first record of a log, those of an open, and those of any other call without its message.
+pub const LOG_HEADER_OCTETS: usize = 8;
+pub const LOG_OPEN_OCTETS: usize = 53;
+pub const LOG_CALL_OCTETS: usize = 18;
+/// The calls by their numbers in a capture and in a log; an open is 1.
+pub const TICK: u16 = 0;
+pub const CLOSE: u16 = 2;
+pub const LOCK: u16 = 3;
+pub const UNLOCK: u16 = 4;
+pub const RECEIVE: u16 = 5;
+pub const REPORT: u16 = 6;
+pub const WRITE_CC: u16 = 7;
+pub const WRITE_CV: u16 = 8;
 
 /// Of a pseudowire (kind 2) `local` is the AC_ID, `group` the AGI type and `size` the AGI length; octet i of the
 /// AGI is `agi[i / 8].to_be_bytes()[i % 8]`. `read_mep_id` makes one from its octets.
@@ -190,6 +203,16 @@ pub struct ConfigurationRead {
     pub period: u32,
 }
 
+/// What a card did, for its log: the call, its reading and its label, and what it was answered.
+#[repr(C)]
+#[derive(Clone, Copy, Debug, Default, PartialEq)]
+pub struct Logged {
+    pub time: u64,
+    pub label: u32,
+    pub kind: u16,
+    pub answer: u16,
+}
+
 // The layout that the library was compiled with.
 const _: () = {
     assert!(size_of::<Session>() == 272 && align_of::<Session>() == 8 && offset_of!(Session, settings) == 144);
@@ -204,6 +227,8 @@ const _: () = {
     assert!(offset_of!(CvRead, part) == 12 && offset_of!(CvRead, packet) == 20 && offset_of!(CvRead, mep) == 48);
     assert!(size_of::<MepIdRead>() == 56 && offset_of!(MepIdRead, mep) == 8);
     assert!(size_of::<ConfigurationRead>() == 12 && offset_of!(ConfigurationRead, period) == 8);
+    assert!(size_of::<Logged>() == 16 && align_of::<Logged>() == 8 && offset_of!(Logged, label) == 8);
+    assert!(offset_of!(Logged, kind) == 12 && offset_of!(Logged, answer) == 14);
     assert!(size_of::<Question>() == 24 && offset_of!(Question, key) == 4 && offset_of!(Question, thing) == 20);
     assert!(size_of::<Cause>() == 48 && offset_of!(Cause, reading) == 16 && offset_of!(Cause, answer) == 40);
 };
@@ -252,6 +277,9 @@ extern "C" {
     pub fn korvezul_write_fault_message(buffer: *mut u8, size: usize, fault: Fault) -> u32;
     pub fn korvezul_read_configuration(octets: *const u8, size: usize, authentication: u16) -> ConfigurationRead;
     pub fn korvezul_write_configuration(buffer: *mut u8, size: usize, discriminator: u32, period: u32) -> u32;
+    pub fn korvezul_log_header(buffer: *mut u8, size: usize) -> u32;
+    pub fn korvezul_log_open(buffer: *mut u8, size: usize, settings: Settings, reading: u64, answer: u16) -> u32;
+    pub fn korvezul_log_call(buffer: *mut u8, size: usize, what: Logged, message: *const u8, octets: usize) -> u32;
 }
 
 /// A table. A slice or an array is never null and is aligned, and what is borrowed apart is apart:
@@ -351,6 +379,21 @@ pub fn read_configuration(octets: &[u8], authentication: u16) -> ConfigurationRe
 
 pub fn write_configuration(buffer: &mut [u8], discriminator: u32, period: u32) -> u32 {
     unsafe { korvezul_write_configuration(buffer.as_mut_ptr(), buffer.len(), discriminator, period) }
+}
+
+/// The octets before the first record of a log.
+pub fn log_header(buffer: &mut [u8]) -> u32 {
+    unsafe { korvezul_log_header(buffer.as_mut_ptr(), buffer.len()) }
+}
+
+/// A record of an open and of what it was answered; 10 for settings that a record cannot hold.
+pub fn log_open(buffer: &mut [u8], settings: Settings, reading: u64, answer: u16) -> u32 {
+    unsafe { korvezul_log_open(buffer.as_mut_ptr(), buffer.len(), settings, reading, answer) }
+}
+
+/// A record of any other call; only a receive has a message.
+pub fn log_call(buffer: &mut [u8], what: Logged, message: &[u8]) -> u32 {
+    unsafe { korvezul_log_call(buffer.as_mut_ptr(), buffer.len(), what, message.as_ptr(), message.len()) }
 }
 
 /// The names of `korvezul_names.h`.

@@ -29,11 +29,12 @@
 extern "C" {
 #endif
 
-/* The version of this header: 0x050100 is 5.1.0. korvezul_version() is the archive's; another major
+/* The version of this header: 0x050200 is 5.2.0. korvezul_version() is the archive's; another major
  * number is another layout or another meaning, and the two must agree in it. 5: the settings have a mode,
- * in an octet that was nobody's before; 5.1: configurations are read and written. */
+ * in an octet that was nobody's before; 5.1: configurations are read and written; 5.2: records of a log
+ * are written. */
 #define KORVEZUL_VERSION_MAJOR 5
-#define KORVEZUL_VERSION_MINOR 1
+#define KORVEZUL_VERSION_MINOR 2
 #define KORVEZUL_VERSION_PATCH 0
 #define KORVEZUL_VERSION \
     (KORVEZUL_VERSION_MAJOR * 0x10000 + KORVEZUL_VERSION_MINOR * 0x100 + KORVEZUL_VERSION_PATCH)
@@ -44,6 +45,12 @@ extern "C" {
 /* The longest plain CV, and the longest plain fault message. */
 #define KORVEZUL_CV_OCTETS 78
 #define KORVEZUL_FAULT_OCTETS 25
+/* The octets before the first record of a log, those of an open, those of any other call without its
+ * message, and the longest message that a record holds. */
+#define KORVEZUL_LOG_HEADER_OCTETS 8
+#define KORVEZUL_LOG_OPEN_OCTETS 53
+#define KORVEZUL_LOG_CALL_OCTETS 18
+#define KORVEZUL_LOG_MESSAGE_OCTETS 2048
 
 enum korvezul_answer {
     KORVEZUL_ACCEPTED = 0,
@@ -293,6 +300,29 @@ struct korvezul_configuration_read {
     uint32_t period;
 };
 
+/* The calls by their numbers in a capture and in a log. */
+enum korvezul_call {
+    KORVEZUL_CALL_TICK = 0,
+    KORVEZUL_CALL_OPEN = 1,   /* korvezul_log_open writes it */
+    KORVEZUL_CALL_CLOSE = 2,
+    KORVEZUL_CALL_LOCK = 3,
+    KORVEZUL_CALL_UNLOCK = 4,
+    KORVEZUL_CALL_RECEIVE = 5,
+    KORVEZUL_CALL_REPORT = 6,
+    KORVEZUL_CALL_WRITE_CC = 7,
+    KORVEZUL_CALL_WRITE_CV = 8
+};
+
+/* What a card did, for its log: the call, a korvezul_call, with its reading and its label, and what it was
+ * answered. Where a call brings no reading (a report, a write) or has no label (a tick) the number is
+ * written and never looked at. */
+struct korvezul_logged {
+    uint64_t time;
+    uint32_t label;
+    uint16_t kind;
+    uint16_t answer;
+};
+
 /* The version of the archive, to be compared with KORVEZUL_VERSION. */
 uint32_t korvezul_version(void);
 
@@ -372,6 +402,25 @@ struct korvezul_configuration_read korvezul_read_configuration(const uint8_t *oc
 
 /* Writes the two, 40 octets, all else nought. 10, 13. */
 uint32_t korvezul_write_configuration(uint8_t *buffer, size_t size, uint32_t discriminator, uint32_t period);
+
+/* A log of the calls on a table, from the time that it was made empty: the header, and then a record for
+ * each call. Each of these writes to the front of a buffer and needs no table; what lies behind is not
+ * touched. A record reads back to the call and the answer that it was written from. */
+
+/* The 8 octets before the first record. 13. */
+uint32_t korvezul_log_header(uint8_t *buffer, size_t size);
+
+/* An open and what it was answered, 53 octets. A record has no room for every setting: 10 where the two
+ * MEP-IDs differ in kind or are a pseudowire's, where `agi`, `agi_type` or `agi_length` of one is not 0, where
+ * the mode is not 0, and where a mark is above 1. All other numbers are written as they are. Then 13. */
+uint32_t korvezul_log_open(uint8_t *buffer, size_t size, struct korvezul_settings settings, uint64_t reading,
+                           uint16_t answer);
+
+/* Any other call and what it was answered, 18 octets and those of the message of a receive; every other
+ * call has none, and `octets` is 0. 10 where the kind is 1 or above 8, where there are octets beside
+ * another kind than 5, and where there are more than 2,048. Then 13. */
+uint32_t korvezul_log_call(uint8_t *buffer, size_t size, struct korvezul_logged what, const uint8_t *message,
+                           size_t octets);
 
 /* The layout that the library was compiled with, held against this compiler's: a size or a place
  * that differs is an array of -1 elements. The numbers are those proved of the library's own structs
@@ -529,6 +578,13 @@ KORVEZUL_ALIGNED(configuration_read, 4);
 KORVEZUL_PLACE(configuration_read, answer, 0);
 KORVEZUL_PLACE(configuration_read, discriminator, 4);
 KORVEZUL_PLACE(configuration_read, period, 8);
+
+KORVEZUL_SIZE(logged, 16);
+KORVEZUL_ALIGNED(logged, 8);
+KORVEZUL_PLACE(logged, time, 0);
+KORVEZUL_PLACE(logged, label, 8);
+KORVEZUL_PLACE(logged, kind, 12);
+KORVEZUL_PLACE(logged, answer, 14);
 
 #undef KORVEZUL_ALIGNED
 #undef KORVEZUL_SIZE
