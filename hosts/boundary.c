@@ -1,8 +1,8 @@
 /*
  * What crosses between a host and the library, held to this header from outside: the version, every
  * field of a record and of a message at its place, why a session is as it is, where each reader says that
- * a message went wrong, each mark and each number that a writer must refuse, MEP-IDs of every form, and
- * rows of another length lent to each call.
+ * a message went wrong, each mark and each number that a writer must refuse, MEP-IDs of every form, rows
+ * of another length lent to each call, configurations, and the records of a log.
  * hosts/run compares what is printed with hosts/timeline-boundary.
  */
 #include <inttypes.h>
@@ -20,7 +20,7 @@ static void need(int holds, const char *what) {
 }
 
 static void check_version(void) {
-    need(KORVEZUL_VERSION == 0x050100, "version of the header");
+    need(KORVEZUL_VERSION == 0x050200, "version of the header");
     need(korvezul_version() == KORVEZUL_VERSION, "version of the library");
     printf("version %d.%d.%d: header and library agree\n", KORVEZUL_VERSION_MAJOR, KORVEZUL_VERSION_MINOR,
            KORVEZUL_VERSION_PATCH);
@@ -565,6 +565,132 @@ static void configurations(void) {
            korvezul_write_configuration(m, 39, 17, 1000000));
 }
 
+/* Records of a log. What is lent is filled before each call; a refusal leaves every octet of it, and a record
+ * those behind it. */
+static uint8_t log_room[KORVEZUL_LOG_CALL_OCTETS + KORVEZUL_LOG_MESSAGE_OCTETS + 4];
+static uint8_t log_message[KORVEZUL_LOG_MESSAGE_OCTETS + 1];
+static struct korvezul_settings opened;
+static struct korvezul_logged did;
+
+static uint32_t kept_behind(uint32_t answer, size_t n) {
+    for (size_t i = answer == KORVEZUL_ACCEPTED ? n : 0; i < sizeof log_room; i++)
+        need(log_room[i] == 0xee, "an octet of a log beside a refusal or behind a record");
+    return answer;
+}
+
+static uint32_t log_header(size_t size) {
+    memset(log_room, 0xee, sizeof log_room);
+    return kept_behind(korvezul_log_header(log_room, size), KORVEZUL_LOG_HEADER_OCTETS);
+}
+
+static uint32_t log_open(size_t size) {
+    memset(log_room, 0xee, sizeof log_room);
+    return kept_behind(korvezul_log_open(log_room, size, opened, did.time, did.answer), KORVEZUL_LOG_OPEN_OCTETS);
+}
+
+static uint32_t log_call(size_t size, size_t octets) {
+    memset(log_room, 0xee, sizeof log_room);
+    return kept_behind(korvezul_log_call(log_room, size, did, log_message, octets),
+                       KORVEZUL_LOG_CALL_OCTETS + octets);
+}
+
+/* Every octet of a record another, so that two numbers that change places are seen. */
+static void records_of_a_log(void) {
+    const struct korvezul_logged all = {UINT64_C(0x0102030405060708), 0x090a0b0c, KORVEZUL_CALL_RECEIVE, 0x0d0e};
+    struct korvezul_settings s = {.own = {.global = 0x41424344, .node = 0x45464748, .local = 0x494a4b4c},
+                                  .expected = {.global = 0x51525354, .node = 0x55565758, .local = 0x595a5b5c},
+                                  .label = 0x11121314,
+                                  .discriminator = 0x21222324,
+                                  .period = 0x31323334};
+    s.own.kind = s.expected.kind = 0x4d4e;
+    did = all;
+    opened = s;
+    for (size_t i = 0; i < sizeof log_message; i++)
+        log_message[i] = (uint8_t)(0x61 + i);
+    print_octets("header of a log", log_header(sizeof log_room), log_room, KORVEZUL_LOG_HEADER_OCTETS + 1);
+    for (uint8_t marks = 0; marks < 4; marks++) {
+        opened.follow_link = marks & 1;
+        opened.follow_lock = marks >> 1;
+        print_octets("open", log_open(sizeof log_room), log_room, KORVEZUL_LOG_OPEN_OCTETS + 1);
+    }
+    print_octets("receive", log_call(sizeof log_room, 6), log_room, KORVEZUL_LOG_CALL_OCTETS + 7);
+    did.kind = KORVEZUL_CALL_TICK;
+    print_octets("tick", log_call(sizeof log_room, 0), log_room, KORVEZUL_LOG_CALL_OCTETS + 1);
+    did.kind = KORVEZUL_CALL_RECEIVE;
+    printf("2,048 octets received: %" PRIu32, log_call(sizeof log_room, KORVEZUL_LOG_MESSAGE_OCTETS));
+    need(memcmp(log_room + KORVEZUL_LOG_CALL_OCTETS, log_message, KORVEZUL_LOG_MESSAGE_OCTETS) == 0,
+         "the longest message of a record");
+    printf(", and one more: %" PRIu32 "\n", log_call(sizeof log_room, sizeof log_message));
+}
+
+/* The answers of a buffer of every size up to what is needed, of which the last alone may be 0. */
+static void rooms_of_a_log(void) {
+    size_t header = 0, opening = 0, plain = 0, received = 0;
+    while (log_header(header) == KORVEZUL_BUFFER)
+        header++;
+    while (log_open(opening) == KORVEZUL_BUFFER)
+        opening++;
+    while (log_call(plain, 0) == KORVEZUL_BUFFER)
+        plain++;
+    while (log_call(received, 6) == KORVEZUL_BUFFER)
+        received++;
+    printf("13 below %zu, %zu, %zu, %zu octets, and then: %" PRIu32 " %" PRIu32 " %" PRIu32 " %" PRIu32 "\n", header,
+           opening, plain, received, log_header(header), log_open(opening), log_call(plain, 0),
+           log_call(received, 6));
+}
+
+static void kinds_of_a_log(void) {
+    static const uint16_t numbers[] = {0, 1, 2, 3, 4, 5, 6, 7, 8, 9, 256, 65535};
+    for (size_t octets = 0; octets < 2; octets++) {
+        printf("calls 0 to 9, 256, 65535 with %zu octets:", octets);
+        for (size_t i = 0; i < sizeof numbers / sizeof *numbers; i++) {
+            did.kind = numbers[i];
+            printf(" %" PRIu32, log_call(sizeof log_room, octets));
+            need(log_call(0, octets) == (log_call(sizeof log_room, octets) == 0 ? 13u : 10u), "10 before 13");
+        }
+        printf("\n");
+    }
+}
+
+static uint32_t log_opened(void) {
+    uint32_t answer = log_open(sizeof log_room);
+    need(log_open(0) == (answer == KORVEZUL_ACCEPTED ? KORVEZUL_BUFFER : KORVEZUL_RANGE), "10 before 13");
+    return answer;
+}
+
+/* The answers to a setting of an open: marks and mode, then of each MEP-ID what a record has no octets for,
+ * then the types. */
+static void settings_of_a_log(void) {
+    struct korvezul_mep_id *const ends[] = {&opened.own, &opened.expected};
+    static const char *const names[] = {"own", "expected"};
+    opened.follow_link = opened.follow_lock = 0;
+    mark(log_opened, "log, follow link-down", &opened.follow_link);
+    mark(log_opened, "log, follow lock", &opened.follow_lock);
+    mark(log_opened, "log, mode", &opened.mode);
+    for (size_t k = 0; k < 2; k++) {
+        const struct korvezul_mep_id before = *ends[k];
+        printf("log, %s, each word of an AGI, AGI type, AGI length:", names[k]);
+        for (size_t i = 0; i < 4; i++) {
+            ends[k]->agi[i] = i % 2 == 0 ? 1 : UINT64_C(1) << 63;
+            printf(" %" PRIu32, log_opened());
+            *ends[k] = before;
+        }
+        ends[k]->agi_type = 1;
+        printf(" %" PRIu32, log_opened());
+        *ends[k] = before;
+        ends[k]->agi_length = 1;
+        printf(" %" PRIu32 "\n", log_opened());
+        *ends[k] = before;
+    }
+    for (uint16_t kind = 0; kind < 4; kind++) {
+        printf("log, own of kind %d, expected of 0, 1, 2, 3:", kind);
+        opened.own.kind = kind;
+        for (opened.expected.kind = 0; opened.expected.kind < 4; opened.expected.kind++)
+            printf(" %" PRIu32, log_opened());
+        printf("\n");
+    }
+}
+
 static void headline(const char *text) { printf("-- %s\n", text); }
 
 int main(void) {
@@ -589,6 +715,11 @@ int main(void) {
     rows();
     headline("configurations");
     configurations();
+    headline("records of a log");
+    records_of_a_log();
+    rooms_of_a_log();
+    kinds_of_a_log();
+    settings_of_a_log();
     headline("names");
     names();
     return 0;

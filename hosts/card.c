@@ -1,25 +1,37 @@
 /*
  * A host of the library in C: two tables in one process, joined by a wire that this host can cross,
  * cut and silence. It prints a timeline (reading, end, call, answer, what was said), which hosts/run
- * compares with hosts/timeline.
+ * compares with hosts/timeline. Each end keeps a log of what it did; `card LOG-A LOG-B` leaves them in
+ * two files, which hosts/run asks about the reports of the timeline.
  */
 #include <inttypes.h>
 #include <stdio.h>
+#include <stdlib.h>
 #include <string.h>
 
 #include "korvezul_names.h"
 
-/* One end of the circuit: a table of its own, and the label that its session listens on. */
+/* The octets of a log, and the labels of the open sessions that are not in it. */
+struct log {
+    uint8_t octets[16384];
+    size_t size;
+    uint32_t beside[KORVEZUL_RECORDS];
+    size_t besides;
+};
+
+/* One end of the circuit: a table of its own with its log, and the label that its session listens on. */
 struct end {
     const char *name;
     struct korvezul_session row[KORVEZUL_RECORDS];
     struct korvezul_head head;
     uint32_t label;
+    struct log log;
 };
 
 static struct end a = {.name = "A", .label = 100};
 static struct end b = {.name = "B", .label = 200};
 static uint64_t now;
+static const uint8_t nothing[1];
 
 static void said(const struct end *e, const char *call, uint32_t label, uint32_t answer) {
     printf("%9" PRIu64 " %s %s", now, e->name, call);
@@ -38,21 +50,130 @@ static void octets(const uint8_t *o, size_t n) {
     printf("\n");
 }
 
+/* ---- the log of an end: a record behind each call. A record has no room for the settings of a
+ * pseudowire or of an independent session; such a label stands beside the log until its session is
+ * closed, and to every other label an accepted call on it is what a tick is. */
+
+#define REST(log) (log)->octets + (log)->size, sizeof(log)->octets - (log)->size
+
+static void written(struct log *log, uint32_t answer, size_t n) {
+    if (answer != KORVEZUL_ACCEPTED) {
+        printf("a log is full, or a message does not fit into it\n");
+        exit(1);
+    }
+    log->size += n;
+}
+
+static void record(struct log *log, struct korvezul_logged what, const uint8_t *message, size_t n) {
+    written(log, korvezul_log_call(REST(log), what, message, n), KORVEZUL_LOG_CALL_OCTETS + n);
+}
+
+static void record_tick(struct log *log) {
+    struct korvezul_logged what = {.time = now, .kind = KORVEZUL_CALL_TICK};
+    record(log, what, nothing, 0);
+}
+
+/* Where a label stands beside the log, or how many labels do. */
+static size_t place_beside(const struct log *log, uint32_t label) {
+    size_t i = 0;
+    while (i < log->besides && log->beside[i] != label)
+        i++;
+    return i;
+}
+
+/* A call with its message and its answer. What 13 and 26 are about, a buffer and a row, is in no record. */
+static uint32_t logged_message(struct end *e, uint16_t kind, uint32_t label, uint32_t answer,
+                               const uint8_t *message, size_t n) {
+    struct log *log = &e->log;
+    struct korvezul_logged what = {.time = now, .label = label, .kind = kind, .answer = (uint16_t)answer};
+    size_t place = place_beside(log, label);
+    if (answer == KORVEZUL_BUFFER || answer == KORVEZUL_TABLE)
+        return answer;
+    if (place == log->besides) {
+        record(log, what, message, n);
+    } else if (answer == KORVEZUL_ACCEPTED && kind <= KORVEZUL_CALL_RECEIVE) {
+        record_tick(log);
+        if (kind == KORVEZUL_CALL_CLOSE)
+            log->beside[place] = log->beside[--log->besides];
+    }
+    return answer;
+}
+
+static uint32_t logged(struct end *e, uint16_t kind, uint32_t label, uint32_t answer) {
+    return logged_message(e, kind, label, answer, nothing, 0);
+}
+
+/* An open. One that is refused may be so for a session beside the log, and is left out then. */
+static uint32_t logged_open(struct end *e, struct korvezul_settings s, uint32_t answer) {
+    struct log *log = &e->log;
+    uint32_t n;
+    if (answer == KORVEZUL_TABLE || (answer != KORVEZUL_ACCEPTED && log->besides > 0))
+        return answer;
+    n = korvezul_log_open(REST(log), s, now, (uint16_t)answer);
+    if (n != KORVEZUL_RANGE) {
+        written(log, n, KORVEZUL_LOG_OPEN_OCTETS);
+    } else if (answer == KORVEZUL_ACCEPTED) {
+        log->beside[log->besides++] = s.label;
+        record_tick(log);
+    }
+    return answer;
+}
+
+/* A log begins where the table is made empty. */
+static void empty(struct end *e) {
+    uint32_t answer = korvezul_empty(e->row, KORVEZUL_RECORDS, &e->head);
+    e->log.size = e->log.besides = 0;
+    written(&e->log, korvezul_log_header(REST(&e->log)), KORVEZUL_LOG_HEADER_OCTETS);
+    said(e, "empty", 0, answer);
+}
+
+static int leave(const struct log *log, const char *path) {
+    FILE *to = fopen(path, "wb");
+    if (to == NULL)
+        return 1;
+    return (fwrite(log->octets, 1, log->size, to) != log->size) | (fclose(to) != 0);
+}
+
+/* ---- the calls, each with a line of the timeline and a record of the log */
+
 static void tick(struct end *e) {
-    said(e, "tick", 0, korvezul_tick(e->row, KORVEZUL_RECORDS, &e->head, now));
+    uint32_t answer = korvezul_tick(e->row, KORVEZUL_RECORDS, &e->head, now);
+    said(e, "tick", 0, logged(e, KORVEZUL_CALL_TICK, 0, answer));
 }
 
 static void report(struct end *e) {
     struct korvezul_report_answer r = korvezul_report(e->row, KORVEZUL_RECORDS, &e->head, e->label);
-    said(e, "report", e->label, r.answer);
+    said(e, "report", e->label, logged(e, KORVEZUL_CALL_REPORT, e->label, r.answer));
     if (r.answer == KORVEZUL_ACCEPTED)
         printf("           %s, crossing %d, loss %d, alarm %d, RDI %d, blocked %d, conditions %d\n",
                korvezul_state_name(r.state), r.crossing, r.loss, r.alarm, r.rdi, r.blocked, r.conditions);
 }
 
 static void receive(struct end *e, const uint8_t *message, size_t n) {
-    said(e, "receive", e->label,
-         korvezul_receive(e->row, KORVEZUL_RECORDS, &e->head, e->label, message, n, now));
+    uint32_t answer = korvezul_receive(e->row, KORVEZUL_RECORDS, &e->head, e->label, message, n, now);
+    said(e, "receive", e->label, logged_message(e, KORVEZUL_CALL_RECEIVE, e->label, answer, message, n));
+}
+
+static void lock(struct end *e) {
+    uint32_t answer = korvezul_lock(e->row, KORVEZUL_RECORDS, &e->head, e->label, now);
+    said(e, "lock", e->label, logged(e, KORVEZUL_CALL_LOCK, e->label, answer));
+}
+
+static void unlock(struct end *e) {
+    uint32_t answer = korvezul_unlock(e->row, KORVEZUL_RECORDS, &e->head, e->label, now);
+    said(e, "unlock", e->label, logged(e, KORVEZUL_CALL_UNLOCK, e->label, answer));
+}
+
+/* Close, of the first records of the row. */
+static void close_of(struct end *e, size_t records) {
+    uint32_t answer = korvezul_close(e->row, records, &e->head, e->label, now);
+    said(e, "close", e->label, logged(e, KORVEZUL_CALL_CLOSE, e->label, answer));
+}
+
+static uint32_t write_cv(struct end *e, uint32_t label, uint8_t *m, size_t n) {
+    uint32_t answer = korvezul_write_cv(e->row, KORVEZUL_RECORDS, &e->head, label, m, n);
+    said(e, "write CV", label, logged(e, KORVEZUL_CALL_WRITE_CV, label, answer));
+    return answer;
 }
 
 /* The CC that one end is to send, heard by the other. */
@@ -61,7 +182,7 @@ static void pass_cc(struct end *from, struct end *to) {
     uint32_t answer;
     tick(from);
     answer = korvezul_write_cc(from->row, KORVEZUL_RECORDS, &from->head, from->label, m, sizeof m);
-    said(from, "write CC", from->label, answer);
+    said(from, "write CC", from->label, logged(from, KORVEZUL_CALL_WRITE_CC, from->label, answer));
     if (answer == KORVEZUL_ACCEPTED) {
         octets(m, sizeof m);
         receive(to, m, sizeof m);
@@ -71,11 +192,8 @@ static void pass_cc(struct end *from, struct end *to) {
 /* The same for the CV of any label of the sender; its reader says how many octets it has. */
 static void pass_cv(struct end *from, uint32_t label, struct end *to) {
     uint8_t m[KORVEZUL_CV_OCTETS] = {0};
-    uint32_t answer;
     tick(from);
-    answer = korvezul_write_cv(from->row, KORVEZUL_RECORDS, &from->head, label, m, sizeof m);
-    said(from, "write CV", label, answer);
-    if (answer == KORVEZUL_ACCEPTED) {
+    if (write_cv(from, label, m, sizeof m) == KORVEZUL_ACCEPTED) {
         size_t n = (size_t)korvezul_read_cv(m, sizeof m).place;
         octets(m, n);
         receive(to, m, n);
@@ -120,7 +238,7 @@ static void open_in_mode(struct end *e, uint32_t label, uint32_t discriminator, 
                                   .mode = mode};
     if (mode != KORVEZUL_COORDINATED)
         snprintf(call, sizeof call, "open as %s", korvezul_mode_name(mode));
-    said(e, call, label, korvezul_open(e->row, KORVEZUL_RECORDS, &e->head, s, now));
+    said(e, call, label, logged_open(e, s, korvezul_open(e->row, KORVEZUL_RECORDS, &e->head, s, now)));
 }
 
 static void open_session(struct end *e, uint32_t label, uint32_t discriminator, struct korvezul_mep_id own,
@@ -214,8 +332,8 @@ static void tick_and_report(struct end *e, uint64_t reading) {
 
 static void come_up(void) {
     headline("two tables made empty, a session opened in each");
-    said(&a, "empty", 0, korvezul_empty(a.row, KORVEZUL_RECORDS, &a.head));
-    said(&b, "empty", 0, korvezul_empty(b.row, KORVEZUL_RECORDS, &b.head));
+    empty(&a);
+    empty(&b);
     open_session(&a, 100, 17, lsp(10), lsp(20));
     open_session(&b, 200, 34, lsp(20), lsp(10));
     headline("CC goes both ways until both are UP");
@@ -263,11 +381,11 @@ static void cut(void) {
 
 static void lock_and_unlock(void) {
     headline("A is locked: B hears ADMIN DOWN, and A takes no BFD message");
-    said(&a, "lock", a.label, korvezul_lock(a.row, KORVEZUL_RECORDS, &a.head, a.label, now));
+    lock(&a);
     both();
     both_report();
     headline("and unlocked");
-    said(&a, "unlock", a.label, korvezul_unlock(a.row, KORVEZUL_RECORDS, &a.head, a.label, now));
+    unlock(&a);
     exchange(18000000, 20000000);
     both_report();
 }
@@ -276,7 +394,7 @@ static void lock_and_unlock(void) {
 static void too_short(struct end *e, uint32_t label) {
     uint8_t m[54];
     memset(m, 0xa5, sizeof m);
-    said(e, "write CV", label, korvezul_write_cv(e->row, KORVEZUL_RECORDS, &e->head, label, m, sizeof m));
+    write_cv(e, label, m, sizeof m);
     octets(m, sizeof m);
 }
 
@@ -301,10 +419,10 @@ static void over_a_pseudowire(void) {
 static void refusals(void) {
     headline("refusals");
     now = 19999999;
-    said(&a, "close", a.label, korvezul_close(a.row, KORVEZUL_RECORDS, &a.head, a.label, now));
+    close_of(&a, KORVEZUL_RECORDS);
     now = 20000000;
-    said(&a, "close", a.label, korvezul_close(a.row, KORVEZUL_RECORDS - 1, &a.head, a.label, now));
-    said(&a, "close", a.label, korvezul_close(a.row, KORVEZUL_RECORDS, &a.head, a.label, now));
+    close_of(&a, KORVEZUL_RECORDS - 1);
+    close_of(&a, KORVEZUL_RECORDS);
     report(&a);
 }
 
@@ -335,7 +453,7 @@ static void independently(void) {
     open_in_mode(&a, 105, 22, lsp(10), lsp(20), 3);
 }
 
-int main(void) {
+int main(int argc, char **argv) {
     if (korvezul_version() != KORVEZUL_VERSION) {
         printf("header and library are of two versions\n");
         return 1;
@@ -349,5 +467,5 @@ int main(void) {
     independently();
     headline("messages alone");
     messages();
-    return 0;
+    return argc == 3 ? leave(&a.log, argv[1]) | leave(&b.log, argv[2]) : 0;
 }

@@ -1,17 +1,70 @@
-//! A host of the library in Rust, with the same story as `card.c` and the same timeline. The calls
-//! behind `Table` (`korvezul.rs`) are what a card would keep.
+//! A host of the library in Rust, with the same story as `card.c`, the same timeline and the same two
+//! logs (`card LOG-A LOG-B`). The calls behind `Table` (`korvezul.rs`) are what a card would keep.
 mod korvezul;
 
 use korvezul::*;
+
+/// What an end did since its table was made empty, and the labels of the open sessions that are not in it: a
+/// record has no room for the settings of a pseudowire or of an independent session. To every other label an
+/// accepted call on such a one is what a tick is.
+struct Log {
+    octets: Vec<u8>,
+    beside: Vec<u32>,
+}
+
+impl Log {
+    fn new() -> Log {
+        let mut octets = vec![0; LOG_HEADER_OCTETS];
+        assert_eq!(log_header(&mut octets), 0);
+        Log { octets, beside: Vec::new() }
+    }
+    fn record(&mut self, what: Logged, message: &[u8]) {
+        let at = self.octets.len();
+        self.octets.resize(at + LOG_CALL_OCTETS + message.len(), 0);
+        assert_eq!(log_call(&mut self.octets[at..], what, message), 0);
+    }
+    fn record_tick(&mut self, time: u64) {
+        self.record(Logged { time, kind: TICK, ..Logged::default() }, &[]);
+    }
+    /// A call with its message and its answer. What 13 and 26 are about, a buffer and a row, is in no record.
+    fn call(&mut self, what: Logged, message: &[u8]) {
+        if what.answer == 13 || what.answer == 26 {
+            return;
+        }
+        if !self.beside.contains(&what.label) {
+            self.record(what, message);
+        } else if what.answer == 0 && what.kind <= RECEIVE {
+            self.record_tick(what.time);
+            self.beside.retain(|label| what.kind != CLOSE || *label != what.label);
+        }
+    }
+    /// An open. One that is refused may be so for a session beside the log, and is left out then.
+    fn open(&mut self, settings: Settings, time: u64, answer: u32) {
+        let mut record = [0; LOG_OPEN_OCTETS];
+        if answer == 26 || answer != 0 && !self.beside.is_empty() {
+            return;
+        }
+        if log_open(&mut record, settings, time, answer as u16) == 0 {
+            self.octets.extend(record);
+        } else if answer == 0 {
+            self.beside.push(settings.label);
+            self.record_tick(time);
+        }
+    }
+}
 
 /// One end of the circuit.
 struct End {
     name: char,
     table: Table,
     label: u32,
+    log: Log,
 }
 
 impl End {
+    fn logged(&mut self, time: u64, kind: u16, label: u32, answer: u32, message: &[u8]) {
+        self.log.call(Logged { time, label, kind, answer: answer as u16 }, message);
+    }
     fn said(&self, now: u64, call: &str, answer: u32) {
         let why = if answer == 0 { String::new() } else { format!(", {}", answer_name(answer)) };
         println!("{now:9} {} {call}: {answer}{why}", self.name);
@@ -20,6 +73,7 @@ impl End {
         let ([own, expected], period) = (ends, 1000000);
         let settings = Settings { own, expected, label, discriminator, period, follow_link: 1, follow_lock: 0, mode };
         let answer = self.table.open(settings, now);
+        self.log.open(settings, now, answer);
         let as_what = if mode == COORDINATED { String::new() } else { format!(" as {}", mode_name(mode)) };
         self.said(now, &format!("open{as_what} {label}"), answer);
     }
@@ -28,10 +82,12 @@ impl End {
     }
     fn tick(&mut self, now: u64) {
         let answer = self.table.tick(now);
+        self.logged(now, TICK, 0, answer, &[]);
         self.said(now, "tick", answer);
     }
     fn report(&mut self, now: u64) {
         let r = self.table.report(self.label);
+        self.logged(now, REPORT, self.label, r.answer, &[]);
         self.said(now, &format!("report {}", self.label), r.answer);
         if r.answer == 0 {
             let state = ["ADMIN DOWN", "DOWN", "INIT", "UP"][r.state as usize];
@@ -43,7 +99,14 @@ impl End {
     }
     fn receive(&mut self, now: u64, message: &[u8]) {
         let answer = self.table.receive(self.label, message, now);
+        self.logged(now, RECEIVE, self.label, answer, message);
         self.said(now, &format!("receive {}", self.label), answer);
+    }
+    fn write_cv(&mut self, now: u64, label: u32, buffer: &mut [u8]) -> u32 {
+        let answer = self.table.write_cv(label, buffer);
+        self.logged(now, WRITE_CV, label, answer, &[]);
+        self.said(now, &format!("write CV {label}"), answer);
+        answer
     }
 }
 
@@ -56,6 +119,7 @@ fn pass_cc(now: u64, from: &mut End, to: &mut End) {
     let mut m = [0; 28];
     from.tick(now);
     let answer = from.table.write_cc(from.label, &mut m);
+    from.logged(now, WRITE_CC, from.label, answer, &[]);
     from.said(now, &format!("write CC {}", from.label), answer);
     if answer == 0 {
         octets(&m);
@@ -67,9 +131,7 @@ fn pass_cc(now: u64, from: &mut End, to: &mut End) {
 fn pass_cv(now: u64, from: &mut End, label: u32, to: &mut End) {
     let mut m = [0; CV_OCTETS];
     from.tick(now);
-    let answer = from.table.write_cv(label, &mut m);
-    from.said(now, &format!("write CV {label}"), answer);
-    if answer == 0 {
+    if from.write_cv(now, label, &mut m) == 0 {
         let m = &m[..read_cv(&m).place as usize];
         octets(m);
         to.receive(now, m);
@@ -335,6 +397,7 @@ fn come_up(a: &mut End, b: &mut End) {
     println!("-- two tables made empty, a session opened in each");
     for e in [&mut *a, &mut *b] {
         let answer = e.table.empty();
+        e.log = Log::new();
         e.said(0, "empty", answer);
     }
     a.open(0, 100, 17, lsp(10), lsp(20));
@@ -382,11 +445,13 @@ fn cut(a: &mut End, b: &mut End) {
 fn lock_and_unlock(a: &mut End, b: &mut End) {
     println!("-- A is locked: B hears ADMIN DOWN, and A takes no BFD message");
     let answer = a.table.lock(100, 18000000);
+    a.logged(18000000, LOCK, 100, answer, &[]);
     a.said(18000000, "lock 100", answer);
     both(18000000, a, b);
     both_report(18000000, a, b);
     println!("-- and unlocked");
     let answer = a.table.unlock(100, 18000000);
+    a.logged(18000000, UNLOCK, 100, answer, &[]);
     a.said(18000000, "unlock 100", answer);
     exchange(18000000, 20000000, a, b);
     both_report(20000000, a, b);
@@ -395,8 +460,7 @@ fn lock_and_unlock(a: &mut End, b: &mut End) {
 /// A buffer with one octet less than the CV of this pseudowire has stays as it is.
 fn too_short(now: u64, e: &mut End, label: u32) {
     let mut m = [0xa5; 54];
-    let answer = e.table.write_cv(label, &mut m);
-    e.said(now, &format!("write CV {label}"), answer);
+    e.write_cv(now, label, &mut m);
     octets(&m);
 }
 
@@ -427,6 +491,7 @@ fn refusals(a: &mut End) {
     println!("-- refusals");
     for (now, records) in [(19999999, RECORDS), (20000000, RECORDS - 1), (20000000, RECORDS)] {
         let answer = close_of(&mut a.table, records, 100, now);
+        a.logged(now, CLOSE, 100, answer, &[]);
         a.said(now, "close 100", answer);
     }
     a.report(20000000);
@@ -466,8 +531,8 @@ fn main() {
     check_pseudowire();
     check_fault();
     check_rows();
-    let mut a = End { name: 'A', table: Table::new(), label: 100 };
-    let mut b = End { name: 'B', table: Table::new(), label: 200 };
+    let mut a = End { name: 'A', table: Table::new(), label: 100, log: Log::new() };
+    let mut b = End { name: 'B', table: Table::new(), label: 200, log: Log::new() };
     come_up(&mut a, &mut b);
     cross(&mut a, &mut b);
     cut(&mut a, &mut b);
@@ -477,4 +542,7 @@ fn main() {
     independently(&mut a, &mut b);
     println!("-- messages alone");
     messages();
+    for (path, end) in std::env::args().skip(1).zip([a, b]) {
+        std::fs::write(path, end.log.octets).expect("a log is written");
+    }
 }
