@@ -123,6 +123,20 @@ static uint32_t cv_message(void) {
 }
 static uint32_t read_mep_id(void) { return korvezul_read_mep_id(cv + 28, cv_octets - 28).answer; }
 static uint32_t fault_message(void) { return korvezul_write_fault_message(buffer, sizeof buffer, fault); }
+static uint32_t log_header(void) { return korvezul_log_header(buffer, sizeof buffer); }
+static uint32_t log_open(void) { /* of LSPs: a record holds no pseudowire */
+    struct korvezul_mep_id lsp = {{0, 0, 0, 0}, 7, 10, 1, KORVEZUL_LSP, 0, 0};
+    struct korvezul_settings s = {lsp, lsp, 100, 17, 10000000, 1, 1, KORVEZUL_COORDINATED};
+    return korvezul_log_open(buffer, sizeof buffer, s, now, 0);
+}
+static uint32_t log_tick(void) {
+    struct korvezul_logged w = {now, 0, KORVEZUL_CALL_TICK, 0};
+    return korvezul_log_call(buffer, sizeof buffer, w, cc, 0);
+}
+static uint32_t log_cc(void) {
+    struct korvezul_logged w = {now, last, KORVEZUL_CALL_RECEIVE, 0};
+    return korvezul_log_call(buffer, sizeof buffer, w, cc, sizeof cc);
+}
 
 static const struct {
     const char *name;
@@ -147,7 +161,11 @@ static const struct {
              {"read-mep-id", read_mep_id},
              {"write-cc-message", cc_message},
              {"write-cv-message", cv_message},
-             {"write-fault-message", fault_message}};
+             {"write-fault-message", fault_message},
+             {"log-header", log_header},
+             {"log-open", log_open},
+             {"log-tick", log_tick},
+             {"log-receive-cc", log_cc}};
 
 static uint32_t (*measured)(void);
 

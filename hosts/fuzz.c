@@ -757,6 +757,125 @@ static uint32_t look_at_configuration(const struct lender *lent) {
     return 0;
 }
 
+/* ---- records of a log, written again number by number */
+
+static struct korvezul_mep_id some_logged_mep(void) {
+    struct korvezul_mep_id id = {{0}, (uint32_t)any(), (uint32_t)any(), (uint32_t)any(), KORVEZUL_LSP, 0, 0};
+    if (once_in(20))
+        id.agi[below(4)] = UINT64_C(1) << below(64);
+    if (once_in(20))
+        id.agi_type = (uint8_t)any();
+    if (once_in(20))
+        id.agi_length = (uint8_t)any();
+    return id;
+}
+
+/* Any numbers, and mostly what a record can hold of the rest. */
+static struct korvezul_settings some_logged_settings(void) {
+    struct korvezul_settings s;
+    memset(&s, 0, sizeof s);
+    s.own = some_logged_mep();
+    s.expected = some_logged_mep();
+    s.own.kind = s.expected.kind = (uint16_t)(once_in(4) ? any() >> 32 : below(3));
+    if (once_in(10))
+        s.expected.kind = some_kind();
+    s.label = (uint32_t)any();
+    s.discriminator = (uint32_t)any();
+    s.period = (uint32_t)any();
+    s.follow_link = (uint8_t)below(once_in(20) ? 256 : 2);
+    s.follow_lock = (uint8_t)below(once_in(20) ? 256 : 2);
+    s.mode = once_in(10) ? some_mode() : 0;
+    return s;
+}
+
+/* A record has 12 octets for a MEP-ID, one type for both, two marks, and no mode. */
+static int fits_a_record(const struct korvezul_settings *s) {
+    int bare = is_nought(s->own.agi, sizeof s->own.agi) && is_nought(s->expected.agi, sizeof s->expected.agi) &&
+               (s->own.agi_type | s->own.agi_length | s->expected.agi_type | s->expected.agi_length) == 0;
+    return bare && s->own.kind == s->expected.kind && s->own.kind != KORVEZUL_PSEUDOWIRE && s->mode == 0 &&
+           (s->follow_link | s->follow_lock) <= 1;
+}
+
+/* What is lent to be written to holds these octets afterwards, and behind them what it held; or all of it. */
+struct room {
+    uint8_t *lent, before[2200];
+    size_t size;
+};
+
+static void make_room(struct room *r, const struct lender *lender, size_t needed) {
+    r->size = once_in(3) ? below(needed + 1) : needed + below(9);
+    r->lent = lend(lender, r->size, once_in(2));
+    fill(r->lent, r->size);
+    memcpy(r->before, r->lent, r->size);
+}
+
+static uint32_t look_at_room(struct room *r, uint32_t answer, int fits, const uint8_t *record, size_t n) {
+    must(answer == (!fits ? KORVEZUL_RANGE : r->size < n ? KORVEZUL_BUFFER : KORVEZUL_ACCEPTED),
+         "a record of a log is answered otherwise");
+    if (answer == KORVEZUL_ACCEPTED)
+        memcpy(r->before, record, n);
+    must(memcmp(r->lent, r->before, r->size) == 0, "a record of a log has other octets");
+    return answer;
+}
+
+static uint8_t *record_head(uint8_t *o, const struct korvezul_logged *w, size_t octets) {
+    o = put(put(o, 8, w->time), 4, w->label);
+    return put(put(put(o, 2, w->kind), 2, octets), 2, w->answer);
+}
+
+static struct korvezul_logged some_logged(void) {
+    struct korvezul_logged w = {any(), (uint32_t)any(), (uint16_t)(once_in(2) ? 5 : below(10)), (uint16_t)below(27)};
+    if (once_in(10))
+        w.kind = (uint16_t)(any() >> 32);
+    if (once_in(10))
+        w.answer = (uint16_t)(any() >> 32);
+    return w;
+}
+
+static uint32_t look_at_logged_open(const struct lender *lender) {
+    struct korvezul_settings s = some_logged_settings(), back;
+    struct korvezul_logged w = some_logged();
+    uint8_t record[KORVEZUL_LOG_OPEN_OCTETS];
+    struct room r;
+    uint32_t answer;
+    make_room(&r, lender, sizeof record);
+    w.label = s.label;
+    w.kind = KORVEZUL_CALL_OPEN;
+    open_body(record_head(record, &w, 35), &s);
+    answer = korvezul_log_open(r.lent, r.size, s, w.time, w.answer);
+    look_at_room(&r, answer, fits_a_record(&s), record, sizeof record);
+    if (answer == KORVEZUL_ACCEPTED) {
+        back = settings_of(s.label, r.lent + KORVEZUL_LOG_CALL_OCTETS, 35);
+        must(memcmp(&back, &s, offsetof(struct korvezul_settings, mode) + 1) == 0, "an open reads back to another");
+    }
+    return answer;
+}
+
+static uint32_t look_at_logged_call(const struct lender *lender, const struct lender *messages) {
+    uint8_t record[2200], message[2100];
+    struct korvezul_logged w = some_logged();
+    size_t n = once_in(20) ? 2040 + below(20) : once_in(3) ? 0 : below(90);
+    uint8_t *lent = lend(messages, n, once_in(2));
+    struct room r;
+    uint32_t answer;
+    int known = w.kind <= 8 && w.kind != KORVEZUL_CALL_OPEN;
+    fill(lent, n);
+    memcpy(message, lent, n);
+    make_room(&r, lender, KORVEZUL_LOG_CALL_OCTETS + n);
+    memcpy(record_head(record, &w, n), message, n);
+    answer = korvezul_log_call(r.lent, r.size, w, lent, n);
+    must(memcmp(lent, message, n) == 0, "a message that was lent to be logged changes");
+    return look_at_room(&r, answer, known && (n == 0 || (w.kind == KORVEZUL_CALL_RECEIVE && n <= 2048)), record,
+                        KORVEZUL_LOG_CALL_OCTETS + n);
+}
+
+static uint32_t look_at_log_header(const struct lender *lender) {
+    static const uint8_t header[] = {'T', 'P', 'L', 0, 1, 0, 0, 0};
+    struct room r;
+    make_room(&r, lender, sizeof header);
+    return look_at_room(&r, korvezul_log_header(r.lent, r.size), 1, header, sizeof header);
+}
+
 /* A table that is lent: any bytes, or one that calls made with a few bytes damaged. */
 static void some_table(const struct table *base, struct korvezul_session *row, size_t size,
                        struct korvezul_head *head) {
@@ -807,20 +926,18 @@ static uint32_t tried(struct korvezul_session *row, size_t n, struct korvezul_he
     return s.answer;
 }
 
-static void print_counts(uint64_t counts[KINDS][27]) {
-    for (int k = 0; k < KINDS; k++) {
-        printf("%s:", names[k]);
-        for (int i = 0; i < 27; i++)
-            if (counts[k][i] != 0)
-                printf(" %d x%" PRIu64, i, counts[k][i]);
-        printf("\n");
-    }
+static void print_count(const char *name, const uint64_t count[27]) {
+    printf("%s:", name);
+    for (int i = 0; i < 27; i++)
+        if (count[i] != 0)
+            printf(" %d x%" PRIu64, i, count[i]);
+    printf("\n");
 }
 
 static int at_random(double seconds) {
-    struct lender rows = a_lender(), heads = a_lender(), lent = a_lender();
+    struct lender rows = a_lender(), heads = a_lender(), lent = a_lender(), records = a_lender();
     static struct table base;
-    static uint64_t counts[KINDS][27], messages, configurations[27];
+    static uint64_t counts[KINDS][27], messages, configurations[27], headers[27], opens[27], others[27];
     clock_t start = clock();
     for (; (double)(clock() - start) / CLOCKS_PER_SEC < seconds; messages++) {
         size_t n = once_in(25) ? below(KORVEZUL_RECORDS + 3) : KORVEZUL_RECORDS, size = n * sizeof *base.row;
@@ -841,13 +958,16 @@ static int at_random(double seconds) {
         look_at_message(&lent);
         look_at_fields();
         configurations[look_at_configuration(&lent)]++;
+        headers[look_at_log_header(&records)]++;
+        opens[look_at_logged_open(&records)]++;
+        others[look_at_logged_call(&records, &lent)]++;
     }
-    print_counts(counts);
-    printf("configurations:");
-    for (int i = 0; i < 27; i++)
-        if (configurations[i] != 0)
-            printf(" %d x%" PRIu64, i, configurations[i]);
-    printf("\n");
+    for (int k = 0; k < KINDS; k++)
+        print_count(names[k], counts[k]);
+    print_count("configurations", configurations);
+    print_count("headers of a log", headers);
+    print_count("opens of a log", opens);
+    print_count("other records of a log", others);
     printf("messages: %" PRIu64 "\n", messages);
     return 0;
 }
