@@ -1,7 +1,8 @@
 /*
- * The library under random input. Three commands:
+ * The library under random input. Four commands:
  *
  *   fuzz play < CAPTURE          plays a capture by calls, and prints what `watch` would
+ *   fuzz log < LOG > LOG         plays a log by calls, and writes it again with the answers that they get
  *   fuzz calls SEED N LIST       makes N random calls on a table of its own, in every mode, writes
  *                                them as a list, and prints what they answered
  *   fuzz random SEED SECONDS     any bytes as row, set, clock, message and buffer; what must hold
@@ -176,6 +177,20 @@ static struct korvezul_settings settings_of(uint32_t label, const uint8_t *body,
     return s;
 }
 
+/* The call of a record, of which these are the first 16 octets and the body. */
+static struct call call_of(const uint8_t *begin, const uint8_t *body, size_t size, const struct lender *lent) {
+    struct call c;
+    c.kind = (enum kind)number(begin + 12, 2);
+    c.reading = number(begin, 8);
+    c.label = (uint32_t)number(begin + 8, 4);
+    c.settings = settings_of(c.label, body, size);
+    c.size = c.kind == RECEIVE ? size : WATCH_CV;
+    c.octets = lend(lent, c.size, 1);
+    if (c.kind == RECEIVE)
+        memcpy(c.octets, body, size);
+    return c;
+}
+
 static int play(void) {
     struct lender rows = a_lender(), heads = a_lender(), lent = a_lender();
     struct korvezul_session *row = lend(&rows, ROW, 1);
@@ -197,17 +212,53 @@ static int play(void) {
             printf("cut\n");
             return 0;
         }
-        c.kind = (enum kind)number(begin + 12, 2);
-        c.reading = number(begin, 8);
-        c.label = (uint32_t)number(begin + 8, 4);
-        c.settings = settings_of(c.label, body, size);
-        c.size = c.kind == RECEIVE ? size : WATCH_CV;
-        c.octets = lend(&lent, c.size, 1);
-        if (c.kind == RECEIVE)
-            memcpy(c.octets, body, size);
+        c = call_of(begin, body, size, &lent);
         s = make(row, KORVEZUL_RECORDS, head, &c);
         line(i, &c, &s);
     }
+}
+
+/* The record of a call: how many octets it has, or 0 where a card has no such record to write, since the body
+ * is that of no open or of a call that has none. */
+static size_t record_of(uint8_t *o, size_t room, const struct call *c, uint32_t answer, size_t body) {
+    struct korvezul_logged w = {c->reading, c->label, (uint16_t)c->kind, (uint16_t)answer};
+    if (c->kind == OPEN)
+        return c->settings.discriminator != 0 && korvezul_log_open(o, room, c->settings, c->reading, w.answer) == 0
+                   ? KORVEZUL_LOG_OPEN_OCTETS
+                   : 0;
+    return korvezul_log_call(o, room, w, c->octets, body) == 0 ? KORVEZUL_LOG_CALL_OCTETS + body : 0;
+}
+
+static int write_log_again(void) {
+    struct lender rows = a_lender(), heads = a_lender(), lent = a_lender(), records = a_lender();
+    struct korvezul_session *row = lend(&rows, ROW, 1);
+    struct korvezul_head *head = lend(&heads, sizeof *head, 1);
+    uint8_t begin[18], body[2048], *o = lend(&records, sizeof begin + sizeof body, 1);
+    uint64_t others = 0;
+    if (fread(begin, 1, 8, stdin) != 8 || korvezul_log_header(o, 8) != 0 || fwrite(o, 1, 8, stdout) != 8)
+        return 1;
+    korvezul_empty(row, KORVEZUL_RECORDS, head);
+    while (fread(begin, 1, sizeof begin, stdin) == sizeof begin) {
+        size_t size = number(begin + 14, 2), n;
+        struct call c;
+        uint32_t answer;
+        if (size > sizeof body || fread(body, 1, size, stdin) != size)
+            return 1;
+        c = call_of(begin, body, size, &lent);
+        answer = make(row, KORVEZUL_RECORDS, head, &c).answer;
+        n = record_of(o, sizeof begin + sizeof body, &c, answer, size);
+        if (n == 0) {
+            put(begin + 16, 2, answer);
+            memcpy(o, begin, sizeof begin);
+            memcpy(o + sizeof begin, body, size);
+            n = sizeof begin + size;
+            others++;
+        }
+        if (fwrite(o, 1, n, stdout) != n)
+            return 1;
+    }
+    fprintf(stderr, "%" PRIu64 "\n", others);
+    return 0;
 }
 
 /* ---- random calls, steered a little so that most of them mean something */
@@ -977,10 +1028,12 @@ int main(int argc, char **argv) {
         seed = (strtoull(argv[2], NULL, 10) + 1) * UINT64_C(0x9e3779b97f4a7c15);
     if (argc == 2 && strcmp(argv[1], "play") == 0)
         return play();
+    if (argc == 2 && strcmp(argv[1], "log") == 0)
+        return write_log_again();
     if (argc == 5 && strcmp(argv[1], "calls") == 0)
         return calls(strtoull(argv[3], NULL, 10), argv[4]);
     if (argc == 4 && strcmp(argv[1], "random") == 0)
         return at_random(strtod(argv[3], NULL));
-    fprintf(stderr, "fuzz play | fuzz calls SEED N LIST | fuzz random SEED SECONDS\n");
+    fprintf(stderr, "fuzz play | fuzz log | fuzz calls SEED N LIST | fuzz random SEED SECONDS\n");
     return 2;
 }
