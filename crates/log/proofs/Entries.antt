@@ -31,7 +31,7 @@ unfolding moreOf
 more-is u n s = rw (lt-ltb 0 (suc n) (omega arith))
 
 -- where nothing is left no whole record stands
-nothing-whole : (s : List ℕ) → length s ≡ 0 → isWhole s ≡ false
+pub nothing-whole : (s : List ℕ) → length s ≡ 0 → isWhole s ≡ false
 unfolding isWhole
 nothing-whole s e = rw (lt-leb 18 (length s) (omega arith))
 
@@ -45,7 +45,7 @@ not-later u clock s h =
     (λ e. rw e)
 
 -- and the other way round
-not-past : (u clock : ℕ) (s : List ℕ) → clock ≤ u → laterOf u (recordIn s) (answerIn s) ≡ false → clockBy s clock ≤ u
+pub not-past : (u clock : ℕ) (s : List ℕ) → clock ≤ u → laterOf u (recordIn s) (answerIn s) ≡ false → clockBy s clock ≤ u
 not-past u clock s h e =
     split (eqb (answerIn s) 0)
     (λ a. split (ltb (recordIn s .kind) 6)

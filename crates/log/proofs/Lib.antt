@@ -1,3 +1,4 @@
 pub mod Turns
 pub mod Runs
 pub mod Entries
+pub mod Asking

@@ -59,7 +59,7 @@ call-clock t r body =
     (λ e. rw (other, e, eqb-true (r .kind) 1 e))
     (λ one. rw (other, one) (act-clock t (r .label) (r .kind) body (r .time) other one)))
 
-next-clock : (t : Table) (r : Record) (body : List ℕ) → isAccepted (answer t (callOf r body)) ≡ true → next t (callOf r body) .clock ≡ clockAfter r (t .clock)
+pub next-clock : (t : Table) (r : Record) (body : List ℕ) → isAccepted (answer t (callOf r body)) ≡ true → next t (callOf r body) .clock ≡ clockAfter r (t .clock)
 unfolding next
 next-clock t r body e = rw e (call-clock t r body)
 
@@ -116,7 +116,7 @@ order-behind t [] o = o
 order-behind t (g ∷ gs) o = order-behind (next t (g .call)) gs (order-kept t (g .call) o)
 
 -- the report after a tick to the reading, where that is taken
-abbrev reported : Table → ℕ → ℕ → Said
+abbrev pub reported : Table → ℕ → ℕ → Said
 reported t u l = answer (next t (Tick u)) (On l ReportOn)
 
 abbrev ticked : Table → ℕ → Table

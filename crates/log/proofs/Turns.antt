@@ -9,7 +9,7 @@ use mathlib.Core.List.{List}
 use lib.ListN.{length, take, drop, length-drop}
 use lib.Seq.{take-all}
 use lib.Dec.{ltb, leb}
-use borrow.Author.Tests.{ltb-true, leb-true}
+use borrow.Author.Tests.{ltb-true, leb-true, not-true}
 use Rattle.octets.proofs.Chain.{and-both}
 use Rattle.rules.proofs.Bools.{split}
 use Rattle.capture.specs.Records.{recordIn}
@@ -28,9 +28,16 @@ unfolding isWhole
 whole-size s e =
     leb-true _ _ (and-both (leb 18 (length s) && leb (recordIn s .kind) 8 && leb (recordIn s .size) 2048) (leb (sizeIn s) (length s)) e .1)
 
-pub more-size : (u n : ℕ) (s : List ℕ) → moreOf u n s ≡ true → sizeIn s ≤ length s
+pub more-whole : (u n : ℕ) (s : List ℕ) → moreOf u n s ≡ true → isWhole s ≡ true
 unfolding moreOf
-more-size u n s e = whole-size s (and-both (ltb 0 n) (isWhole s) (and-both (ltb 0 n && isWhole s) (not (laterOf u (recordIn s) (answerIn s))) e .0) .1)
+more-whole u n s e = and-both (ltb 0 n) (isWhole s) (and-both (ltb 0 n && isWhole s) (not (laterOf u (recordIn s) (answerIn s))) e .0) .1
+
+pub more-not-later : (u n : ℕ) (s : List ℕ) → moreOf u n s ≡ true → laterOf u (recordIn s) (answerIn s) ≡ false
+unfolding moreOf
+more-not-later u n s e = not-true _ (and-both (ltb 0 n && isWhole s) (not (laterOf u (recordIn s) (answerIn s))) e .1)
+
+pub more-size : (u n : ℕ) (s : List ℕ) → moreOf u n s ≡ true → sizeIn s ≤ length s
+more-size u n s e = whole-size s (more-whole u n s e)
 
 module _ (l u : ℕ) where
   pub stops : (n : ℕ) (s : List ℕ) (p : Point) → moreOf u n s ≡ false → readTo n l u s p ≡ endedAt n s p
