@@ -190,7 +190,7 @@ pub record OurLog (row : List Session) (log : List ℕ) (n : ℕ) : Type 0 where
 abbrev pub frontOf : List Session → List ℕ → ℕ → Table
 frontOf row log u = behindAll (emptied row) (goneThrough 65536 u (drop 8 log))
 
-module _ (row : List Session) (log : List ℕ) (n : ℕ) (our : OurLog row log n) (l u : ℕ) (named : eqb l 0 ≡ false) (top : u ≤ latest) where
+module _ (row : List Session) (log : List ℕ) (n : ℕ) (our : OurLog row log n) (l u : ℕ) (top : u ≤ latest) where
   abbrev s : List ℕ
   s = drop 8 log
 
@@ -202,7 +202,7 @@ module _ (row : List Session) (log : List ℕ) (n : ℕ) (our : OurLog row log n
       let o = start-order row (our .rows) in
       let e = readTo 65536 l u s atStart in
       let a : Agrees l (frontOf row log u) (e .point) =
-      agrees-read l named 65536 u (emptied row) s atStart o (start-agrees l row) (ours-front n 65536 u (emptied row) s (our .all) (our .ours)) in
+      agrees-read l 65536 u (emptied row) s atStart o (start-agrees l row) (ours-front n 65536 u (emptied row) s (our .all) (our .ours)) in
       let h : e .point .clock ≤ u = read-clock 65536 l u s atStart (omega arith) in
       let in-reach : late (frontOf row log u .clock) u ≡ false = not-late-at (frontOf row log u .clock) u (omega (arith, a .clock, h)) top in
       answer-reports (frontOf row log u) u l e looked (order-behind (emptied row) (goneThrough 65536 u s) o) a in-reach (not-cut n 65536 l u s atStart (our .whole) (our .all))

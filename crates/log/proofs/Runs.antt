@@ -78,7 +78,7 @@ pub record Agrees (l : ℕ) (t : Table) (p : Point) : Type 0 where
   pub own : find l (openOf t) ≡ heldIn (p .session)
   pub clock : t .clock ≡ p .clock
 
-module _ (l : ℕ) (named : eqb l 0 ≡ false) where
+module _ (l : ℕ) where
   -- one record
   agrees-next : (t : Table) (s : List ℕ) (p : Point) → inOrder t ≡ true → Agrees l t p → answerIn s ≡ answer t (loggedIn s .call) .number
       → Agrees l (next t (loggedIn s .call)) (followed l s p)
@@ -91,7 +91,7 @@ module _ (l : ℕ) (named : eqb l 0 ≡ false) where
       let yes : isAccepted (answer t (callOf r body)) ≡ true = number ∙ e in
       rw (followed-taken l s p e)
       (record {
-        own = record-follows t l r body (p .session) o named yes (a .own);
+        own = record-follows t l r body (p .session) o yes (a .own);
         clock = next-clock t r body yes ∙ ap (clockAfter r) (a .clock);
       }))
       (λ e. rw (followed-left l s p e, refused-table t (callOf r body) (number ∙ e)) a)

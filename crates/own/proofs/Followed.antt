@@ -1,23 +1,31 @@
 -- The record of a label, kept by itself, is what the table has of it: after every accepted record of a log.
 -- Assumes nothing.
-use Prim.Native.Nat.{ℕ}
+use Prim.Native.Nat.{ℕ, _≤_}
+use native.Mathlib.Omega.{arith}
 use mathlib.Core.Path.{_≡_, refl, sym, ap, _∙_}
-use mathlib.Core.Bool.{Bool, true, false, cond}
+use mathlib.Core.Bool.{Bool, true, false, cond, _&&_}
 use mathlib.Core.Option.{Option, none, some, Option·map}
-use mathlib.Core.List.{List}
-use lib.Dec.{eqb}
-use borrow.Author.Tests.{eqb-true, eq-eqb}
-use Rattle.octets.proofs.Chain.{bar-passed}
+use mathlib.Core.List.{List, [], _∷_}
+use lib.Dec.{eqb, leb}
+use borrow.Author.Tests.{eqb-true, eq-eqb, ne-eqb, leb-true}
+use Rattle.octets.proofs.Chain.{and-both, bar-passed}
 use Rattle.message.specs.Message.{messageOf}
 use Rattle.rules.specs.Times.{late}
+use Rattle.rules.specs.declared.Settings.{Settings}
+use Rattle.rules.specs.Settings.{labelFits, discriminatorFits, periodFits, circuitFits, endsFit, choicesFit, settingsFit}
 use Rattle.rules.specs.Received.{receivedAs}
 use Rattle.rules.specs.Calls.{Act, Close, Lock, Unlock, Receive, ReportOn, WriteCc, WriteCv, Call, Tick, Open, On, isAccepted}
 use Rattle.rules.proofs.Bools.{split}
 use Rattle.session.specs.declared.Session.{Session}
 use Rattle.session.specs.Steps.{newSession, lockedBy, unlockedAt, replySettled}
 use Rattle.session.specs.Live.{receivedNumber, receivedRecord}
+use Rattle.session.specs.Soundness.{sessionSound}
+use Rattle.session.proofs.Sound.{sound-says}
 use Rattle.session.proofs.Received.{received-keeps}
-use Rattle.table.specs.Table.{Table, openOf, inOrder, find, actAnswer, asked, answer, receiving, receiveAnswer, next}
+use Rattle.table.specs.Places.{hasLabel}
+use Rattle.table.proofs.Every.{every-cons}
+use Rattle.table.proofs.Order.{order-says, order-kept}
+use Rattle.table.specs.Table.{Table, openOf, every, inOrder, find, actAnswer, asked, answer, receiving, receiveAnswer, next}
 use Rattle.capture.specs.declared.Record.{Record}
 use Rattle.capture.specs.Records.{settingsIn, actOf, callOf}
 use Rattle.own.specs.Own.{ownAct, ownActed}
@@ -142,9 +150,49 @@ message-taken t l r body s o a same e five =
     sym (ap (λ (x : Option Session). receiveAnswer x body (r .time)) e) ∙ p
 
 -- what the table has of the label, after an accepted record
-pub record-follows : (t : Table) (l : ℕ) (r : Record) (body : List ℕ) (s : Session) → inOrder t ≡ true → eqb l 0 ≡ false
+named-follows : (t : Table) (l : ℕ) (r : Record) (body : List ℕ) (s : Session) → inOrder t ≡ true → eqb l 0 ≡ false
     → isAccepted (answer t (callOf r body)) ≡ true → find l (openOf t) ≡ heldIn s → find l (openOf (next t (callOf r body))) ≡ heldIn (recordAfter r body l s)
-record-follows t l r body s o named a e =
+named-follows t l r body s o named a e =
     own-next t l (callOf r body) o ∙ rw a
     (ap (ownActed l (callOf r body)) e
     ∙ sym (record-acts r body s l (λ same h. message-taken t l r body s o a (eqb-true (r .label) l same) (e ∙ rw h)) named))
+
+-- no label that fits is 0, so no sound record has it
+label-fits : (g : Settings) → settingsFit g ≡ true → 16 ≤ g .label
+unfolding settingsFit
+label-fits g e =
+    let circuit = and-both (circuitFits (g .label) (g .discriminator) (g .period)) (endsFit (g .own .kind) (g .own .size) (g .expected .kind) (g .expected .size) && choicesFit (g .followlink) (g .followlock) (g .mode)) e .0 in
+    let both = and-both (labelFits (g .label) && discriminatorFits (g .discriminator)) (periodFits (g .period)) circuit .0 in
+    let label = and-both (labelFits (g .label)) (discriminatorFits (g .discriminator)) both .0 in
+    leb-true 16 (g .label) (and-both (leb 16 (g .label)) (leb (g .label) 1048575) label .0)
+
+sound-named : (r : Session) (clock : ℕ) → sessionSound r clock ≡ true → hasLabel 0 r ≡ false
+sound-named r clock e = ne-eqb (r .settings .label) 0 (λ z. omega (arith, label-fits (r .settings) (sound-says r clock e .settings)))
+
+none-unnamed : (clock : ℕ) (rs : List Session) → every (λ r. sessionSound r clock) rs ≡ true → find 0 rs ≡ none
+unfolding find
+none-unnamed clock [] e = refl
+none-unnamed clock (r ∷ rs) e =
+    let w = and-both (sessionSound r clock) (every (λ x. sessionSound x clock) rs) (sym (every-cons (λ x. sessionSound x clock) r rs) ∙ e) in
+    rw (sound-named r clock (w .0)) (none-unnamed clock rs (w .1))
+
+-- so label 0 is open in no table in order
+pub unnamed-closed : (t : Table) → inOrder t ≡ true → find 0 (openOf t) ≡ none
+unnamed-closed t o = none-unnamed (t .clock) (openOf t) (order-says t o .sound)
+
+-- a record that is none has label 0
+none-label : (s : Session) → heldIn s ≡ none → eqb (s .settings .label) 0 ≡ true
+none-label s e = split (eqb (s .settings .label) 0) (λ z. z) (λ z. absurd (let w : some s ≡ none = rw z at e in let q : _≡_ {A = ℕ} 0 1 = cc in omega arith))
+
+-- whatever the label
+pub record-follows : (t : Table) (l : ℕ) (r : Record) (body : List ℕ) (s : Session) → inOrder t ≡ true
+    → isAccepted (answer t (callOf r body)) ≡ true → find l (openOf t) ≡ heldIn s → find l (openOf (next t (callOf r body))) ≡ heldIn (recordAfter r body l s)
+record-follows t l r body s o a e =
+    split (eqb l 0)
+    (λ z.
+    let zeroth = eqb-true l 0 z in
+    let c = callOf r body in
+    let h : heldIn s ≡ none = sym e ∙ ap (λ (k : ℕ). find k (openOf t)) zeroth ∙ unnamed-closed t o in
+    let k : heldIn (recordAfter r body 0 s) ≡ none = rw (record-unnamed r body s (none-label s h)) in
+    ap (λ (k : ℕ). find k (openOf (next t c))) zeroth ∙ unnamed-closed (next t c) (order-kept t c o) ∙ sym k ∙ ap (λ (k : ℕ). heldIn (recordAfter r body k s)) (sym zeroth))
+    (λ named. named-follows t l r body s o named a e)
