@@ -36,7 +36,7 @@ use Rattle.log.specs.Reading.{laterOf, clockAfter, followed, moreOf, rea
 use Rattle.log.specs.Runs.{Ours, behindAll, goneThrough}
 use Rattle.log.specs.Entries.{restAfter, pointAfter, clockBy, Rises, entryPoint, entryRest}
 use Rattle.log.proofs.Turns.{more-whole, more-not-later}
-use Rattle.log.proofs.Runs.{Agrees, next-clock, agrees-read, order-behind, reported, answer-reports}
+use Rattle.log.proofs.Runs.{Agrees, next-clock, agrees-next, agrees-read, order-behind, reported, answer-reports}
 use Rattle.log.proofs.Entries.{kept-clock, not-past, nothing-whole, entries-rise, from-entry}
 
 -- an accepted act of kinds 2 to 5 brings a reading that is not below the clock
@@ -224,3 +224,36 @@ module _ (row : List Session) (log : List ℕ) (n : ℕ) (our : OurLog row log n
       (λ h. omega (arith, last .later (k + 1) (omega arith) (omega arith), are (k + 1) (omega arith))) in
       let all = read-all looked in
       (ap (λ (x : Answer). x .answer) same ∙ all .0, ap (λ (x : Answer). x .report) same ∙ all .1)
+
+-- the first of whole records, and of our run's
+wholes-front : (m n : ℕ) (s : List ℕ) → m ≤ n → Wholes n s → Wholes m s
+unfolding Wholes
+wholes-front zero n s h w = tt
+wholes-front (suc m) zero s h w = absurd (omega arith)
+wholes-front (suc m) (suc n) s h w = (w .0, wholes-front m n (behind s) (omega arith) (w .1))
+
+ours-first : (m n : ℕ) (t : Table) (s : List ℕ) → m ≤ n → Wholes n s → Ours t (loggedBy n s) → Ours t (loggedBy m s)
+unfolding Wholes loggedBy Ours
+ours-first zero n t s h w o = tt
+ours-first (suc m) zero t s h w o = absurd (omega arith)
+ours-first (suc m) (suc n) t s h w o =
+    let v = rw (w .0) at o in
+    rw (w .0) (v .0, ours-first m n (next t (loggedIn s .call)) (behind s) (omega arith) (w .1) (v .1))
+
+-- behind n records
+agrees-after : (n l : ℕ) (t : Table) (s : List ℕ) (p : Point) → inOrder t ≡ true → Agrees l t p → Wholes n s → Ours t (loggedBy n s)
+    → Agrees l (behindAll t (loggedBy n s)) (pointAfter n l s p)
+unfolding Wholes loggedBy Ours behindAll pointAfter
+agrees-after zero l t s p o a w ours = a
+agrees-after (suc n) l t s p o a w ours =
+    let v = rw (w .0) at ours in
+    let c = loggedIn s .call in
+    rw (w .0) (agrees-after n l (next t c) (behind s) (followed l s p) (order-kept t c o) (agrees-next l t s p o a (v .0)) (w .1) (v .1))
+
+-- entry k has the record of the label and the clock of the table after the first 256 k calls
+pub index-holds : (row : List Session) (log : List ℕ) (n : ℕ) → OurLog row log n → (l k : ℕ) → 256 * k ≤ n
+    → Agrees l (behindAll (emptied row) (loggedBy (256 * k) (drop 8 log))) (entryPoint l log k)
+index-holds row log n our l k h =
+    let s = drop 8 log in
+    agrees-after (256 * k) l (emptied row) s atStart (start-order row (our .rows)) (start-agrees l row) (wholes-front (256 * k) n s h (our .whole))
+    (ours-first (256 * k) n (emptied row) s h (our .whole) (our .ours))

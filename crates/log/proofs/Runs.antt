@@ -80,7 +80,7 @@ pub record Agrees (l : ℕ) (t : Table) (p : Point) : Type 0 where
 
 module _ (l : ℕ) where
   -- one record
-  agrees-next : (t : Table) (s : List ℕ) (p : Point) → inOrder t ≡ true → Agrees l t p → answerIn s ≡ answer t (loggedIn s .call) .number
+  pub agrees-next : (t : Table) (s : List ℕ) (p : Point) → inOrder t ≡ true → Agrees l t p → answerIn s ≡ answer t (loggedIn s .call) .number
       → Agrees l (next t (loggedIn s .call)) (followed l s p)
   agrees-next t s p o a said =
       let r = recordIn s in
