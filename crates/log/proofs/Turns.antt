@@ -54,6 +54,15 @@ module _ (l u : ℕ) where
       (λ e. rw e (omega (arith, spare-most n (behind s) (followed l s p))))
       (λ e. rw e (omega arith))
 
+  -- no more octets are left than there were
+  pub left-most : (n : ℕ) (s : List ℕ) (p : Point) → readTo n l u s p .left ≤ length s
+  unfolding readTo behind
+  left-most zero s p = omega arith
+  left-most (suc n) s p =
+      split (moreOf u (suc n) s)
+      (λ e. rw e (omega (arith, left-most n (drop (sizeIn s) s) (followed l s p), length-drop (sizeIn s) s)))
+      (λ e. rw e (omega arith))
+
   pub turns : (n : ℕ) (s : List ℕ) (p : Point) → moreOf u n s ≡ true → readTo n l u s p ≡ readTo (n - 1) l u (behind s) (followed l s p)
   unfolding readTo
   turns zero s p e = absurd (omega (arith, more-left u 0 s e))

@@ -1,0 +1,44 @@
+-- The records of an index filled in, entry by entry: what the code does.
+-- Assumes nothing.
+use Prim.Native.Nat.{ℕ, zero, suc, _+_, _-_}
+use mathlib.Core.Bool.{Bool, cond}
+use mathlib.Core.List.{List}
+use lib.ListN.{length, drop}
+use lib.Dec.{eqb, ltb}
+use Rattle.session.specs.declared.Session.{Session}
+use Rattle.table.specs.Table.{absent}
+use Rattle.log.specs.declared.Ended.{Ended}
+use Rattle.log.specs.Reading.{readTo, never}
+use Rattle.walks.specs.AtPlace.{Afterwards, atPlace}
+use Rattle.index.specs.declared.Filling.{Filling}
+
+-- the entry that is to be filled in, and whether there is one
+abbrev pub entryAt : Filling → ℕ
+entryAt x = x .at
+
+abbrev pub unfilled : Filling → Bool
+unfilled x = ltb (x .at) (x .count)
+
+-- there is no room for it: nothing more is filled in
+abbrev pub stopped : Filling → Filling
+stopped x = record { point = x .point; place = x .place; at = x .at; count = x .at; label = x .label }
+
+-- before the first entry no record is read, before another 256
+abbrev pub readsFor : Filling → ℕ
+readsFor x = cond (eqb (x .at) 0) 0 256
+
+abbrev pub readFor : Filling → List ℕ → Ended
+readFor x log = readTo (readsFor x) (x .label) never (drop (x .place) log) (x .point)
+
+-- the next entry
+abbrev pub onward : Filling → ℕ
+onward x = cond (unfilled x) (x .at + 1) (x .at)
+
+-- what stands at the entry, and the next one
+abbrev pub filledBy : Filling → List ℕ → Filling
+filledBy x log =
+    record { point = readFor x log .point; place = length log - readFor x log .left; at = onward x; count = x .count; label = x .label }
+
+-- one entry: the record that stands there is stored
+abbrev pub fillOne : List Session → Filling → List ℕ → Afterwards Filling Session
+fillOne row x log = atPlace entryAt stopped (λ s y octets. filledBy y octets) (λ s d. d .point .session) (λ y d. d) absent row x log
