@@ -1,1 +1,2 @@
 pub mod Plains
+pub mod TurnLoop
