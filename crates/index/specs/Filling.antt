@@ -42,3 +42,12 @@ filledBy x log =
 -- one entry: the record that stands there is stored
 abbrev pub fillOne : List Session → Filling → List ℕ → Afterwards Filling Session
 fillOne row x log = atPlace entryAt stopped (λ s y octets. filledBy y octets) (λ s d. d .point .session) (λ y d. d) absent row x log
+
+-- entry by entry, n at most
+unfoldable pub fillsOf : ℕ → List ℕ → Afterwards Filling Session → Afterwards Filling Session
+fillsOf zero log a = a
+fillsOf (suc n) log a = cond (unfilled (a .outcome)) (fillsOf n log (fillOne (a .row) (a .outcome) log)) a
+
+-- all that are left
+abbrev pub fillAll : List Session → Filling → List ℕ → Afterwards Filling Session
+fillAll row x log = fillsOf (x .count - x .at) log (record { outcome = x; row = row })

@@ -4,7 +4,7 @@ use log::read_to;
 use octets::from_place;
 use session::Session;
 ghost use mathlib.Core.Path.{_≡_};
-ghost use Rattle.index.specs.Filling.{entryAt, unfilled, stopped, onward, readsFor, filledBy, fillOne};
+ghost use Rattle.index.specs.Filling.{entryAt, unfilled, stopped, onward, readsFor, filledBy, fillOne, fillAll};
 
 // No reading is past this.
 const NEVER: u64 = 18_446_744_073_709_551_615;
@@ -49,7 +49,13 @@ fn filled_by(_s: Session, x: Filling, log: &[u8]) -> Filling
     ensures { λ r. ⌜ r ≡ filledBy x (now (log .entry)) ⌝ }
 {
     let point = x.point;
-    let e = read_to(from_place(log, x.place), x.label, point, reads_for(x), NEVER);
+    let e = read_to(
+        from_place(log, x.place),
+        x.label,
+        point,
+        reads_for(x),
+        NEVER,
+    );
     let there = e.point;
     Filling {
         point: there,
@@ -84,4 +90,23 @@ pub fn fill_one(records: &mut [Session], x: Filling, log: &[u8]) -> Filling
     let d = filled_by(s, x, log);
     records[place] = stored_by(s, d);
     told_by(x, d)
+}
+
+// Whether an entry is still to be filled in.
+fn is_unfilled(x: Filling) -> bool
+    ensures { λ r. ⌜ r ≡ unfilled x ⌝ }
+{
+    x.at < x.count
+}
+
+// All entries that are left.
+pub fn fill(records: &mut [Session], from: Filling, log: &[u8]) -> Filling
+    ensures { λ o. ⌜ record { outcome = o; row = now (records .exit) } ≡ fillAll (now (records .entry)) from (now (log .entry)) ⌝ }
+{
+    let mut x = from;
+    while is_unfilled(x) {
+        let next = fill_one(&mut *records, x, log);
+        x = next;
+    }
+    x
 }

@@ -1,6 +1,7 @@
 // The index of a log for one label: its records filled in, entry by entry.
 mod entries;
 
+pub use entries::fill;
 pub use entries::fill_one;
 use log::Point;
 
