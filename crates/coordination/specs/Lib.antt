@@ -1,0 +1,4 @@
+pub mod Tlvs
+pub mod Message
+pub mod Octets
+pub mod Plain
