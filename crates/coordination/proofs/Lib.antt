@@ -1,3 +1,4 @@
 pub mod Walk
 pub mod Octets
 pub mod Says
+pub mod RoundTrip

@@ -21,7 +21,10 @@ fn front_refusal(m: &[u8]) -> u32
 {
     let end = 12 + get_u16(m, 8) as usize;
     let cut = refuse_if(m.len() < end, 3, 0);
-    or_else(channel_refusal(m, DHC_CHANNEL), refuse_if(m.len() < 12, 3, cut))
+    or_else(
+        channel_refusal(m, DHC_CHANNEL),
+        refuse_if(m.len() < 12, 3, cut),
+    )
 }
 
 // 25 for a wrong TLV, and where neither of the two is there.

@@ -46,7 +46,10 @@ fn is_wrong(t: Tlvs, end: u32, kind: u16, size: u16) -> bool
     ensures { λ r. ⌜ r ≡ wrongTlv t end kind size ⌝ }
 {
     let past = end < t.at + 4 + size as u32;
-    either(is_repeated(t, kind), either(has_wrong_length(kind, size), past))
+    either(
+        is_repeated(t, kind),
+        either(has_wrong_length(kind, size), past),
+    )
 }
 
 fn end_with(end: u32, t: Tlvs) -> Tlvs

@@ -7,7 +7,7 @@ use Rattle.coordination.proofs.read.read_dhc.Tie as tie
 
 returns : tie.Need-returns
 unfolding dhcRefusal dhcOf
-returns c = 
+returns c =
     let m = c .before .before .before .before .before .args .m .now in
     let t : c .before .before .read-tlvs .result ≡ tlvsIn m = c .before .before .read-tlvs .ensures ∙ rw (c .before .before .before .get-u16 .ensures) in
     let n : c .before .refusal-with .result ≡ dhcRefusal m = c .before .refusal-with .ensures ∙ rw t in
@@ -15,7 +15,7 @@ returns c =
 
 returns-2 : tie.Need-returns-2
 unfolding dhcRefusal dhcOf
-returns-2 c = 
+returns-2 c =
     let m = c .before .before .before .before .before .before .args .m .now in
     let t : c .before .before .before .read-tlvs .result ≡ tlvsIn m = c .before .before .before .read-tlvs .ensures ∙ rw (c .before .before .before .before .get-u16 .ensures) in
     let n : c .before .before .refusal-with .result ≡ dhcRefusal m = c .before .before .refusal-with .ensures ∙ rw t in
