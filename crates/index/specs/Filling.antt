@@ -1,16 +1,18 @@
 -- The records of an index filled in, entry by entry: what the code does.
 -- Assumes nothing.
-use Prim.Native.Nat.{ℕ, zero, suc, _+_, _-_}
+use Prim.Native.Nat.{ℕ, zero, suc, _+_, _-_, _/_}
 use mathlib.Core.Bool.{Bool, cond}
 use mathlib.Core.List.{List}
 use lib.ListN.{length, drop}
 use lib.Dec.{eqb, ltb}
+use Rattle.octets.specs.Choice.{bar, orElse}
 use Rattle.session.specs.declared.Session.{Session}
 use Rattle.table.specs.Table.{absent}
 use Rattle.log.specs.declared.Ended.{Ended}
-use Rattle.log.specs.Reading.{readTo, never}
+use Rattle.log.specs.Reading.{readTo, never, atStart, countOf}
 use Rattle.walks.specs.AtPlace.{Afterwards, atPlace}
 use Rattle.index.specs.declared.Filling.{Filling}
+use Rattle.index.specs.declared.Begun.{Begun}
 
 -- the entry that is to be filled in, and whether there is one
 abbrev pub entryAt : Filling → ℕ
@@ -51,3 +53,22 @@ fillsOf (suc n) log a = cond (unfilled (a .outcome)) (fillsOf n log (fillOne (a 
 -- all that are left
 abbrev pub fillAll : List Session → Filling → List ℕ → Afterwards Filling Session
 fillAll row x log = fillsOf (x .count - x .at) log (record { outcome = x; row = row })
+
+-- the entries of so many records
+abbrev pub entriesOf : ℕ → ℕ
+entriesOf records = records / 256 + 1
+
+-- building: 19, then 13 where the room is less than the entries
+abbrev pub buildAnswer : List ℕ → ℕ → ℕ
+buildAnswer log room = orElse (countOf log .answer) (bar (ltb room (entriesOf (countOf log .count))) 13 0)
+
+-- before the first entry; of a log that is refused there is none
+abbrev pub fillingFrom : ℕ → ℕ → Filling
+fillingFrom label count = record { point = atStart; place = 8; at = 0; count = count; label = label }
+
+unfoldable pub begunOf : List ℕ → ℕ → ℕ → Begun
+begunOf log label room =
+    record {
+      filling = fillingFrom label (cond (eqb (buildAnswer log room) 0) (entriesOf (countOf log .count)) 0);
+      answer = buildAnswer log room;
+    }

@@ -1,6 +1,8 @@
 // The index of a log for one label: its records filled in, entry by entry.
+mod begin;
 mod entries;
 
+pub use begin::begin_fill;
 pub use entries::fill;
 pub use entries::fill_one;
 use log::Point;
@@ -13,4 +15,10 @@ pub struct Filling {
     pub at: usize,
     pub count: usize,
     pub label: u32,
+}
+
+// What building answers, 0, 19 or 13, and where it begins: beside a refusal there is no entry.
+pub struct Begun {
+    pub filling: Filling,
+    pub answer: u32,
 }
