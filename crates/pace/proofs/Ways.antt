@@ -1,11 +1,12 @@
 -- What a paced record is, of both kinds of record: those that bring a message and those that do not. The walks of `NotedCall.antt` and `OneTurn.antt` take these laws.
 -- Assumes nothing.
 use Prim.Native.Nat.{ℕ, _<_, _^_}
-use mathlib.Core.Path.{_≡_, sym, ap, subst, _∙_}
-use mathlib.Core.Bool.{Bool, true}
+use mathlib.Core.Path.{_≡_, refl, sym, ap, subst, _∙_}
+use mathlib.Core.Bool.{Bool, true, false}
 use mathlib.Core.List.{List}
 use lib.Dec.{T as Holds, eqb}
 use lib.ListN.{length, getD, drop}
+use Rattle.rules.proofs.Bools.{split}
 use Rattle.session.specs.declared.Session.{Session}
 use Rattle.table.specs.Places.{firstHit}
 use Rattle.table.specs.Table.{absent}
@@ -15,10 +16,11 @@ use Rattle.capture.specs.Records.{recordFrom}
 use Rattle.feed.specs.declared.Fed.{Fed}
 use Rattle.feed.specs.Calling.{Calls, messageNext}
 use Rattle.interval.specs.declared.Pace.{Pace}
+use Rattle.interval.specs.Records.{ownEvent, recordEvent}
 use Rattle.pace.specs.declared.Pacing.{Pacing}
 use Rattle.pace.specs.declared.calls.Paced.{Paced}
 use Rattle.pace.specs.Pacing.{moreOf}
-use Rattle.pace.specs.Calling.{setSought, noteOf, toldBy, Paces, keptBy, Turns}
+use Rattle.pace.specs.Calling.{setSought, noteOf, forgetsOf, plainNote, noteFor, toldBy, Paces, keptBy, Turns}
 use Rattle.walks.proofs.Plain.{Plain, boolP, u64P, u32P}
 use Rattle.row.proofs.Plains.{sessionP, outcomeP}
 use Rattle.feed.proofs.FedPlain.{fedP}
@@ -32,16 +34,34 @@ use Rattle.pace.proofs.Turns.{is-turn, turn-takes}
 abbrev Meant : Bool → Record → Type 0
 Meant b r = eqb (r .kind) 5 ≡ b
 
+-- what is kept behind a record that brings no message needs nothing but the record
+plain-is : (s : Session) (x : Pacing) (r : Record) (m : List ℕ) → Meant false r → plainNote x r ≡ noteOf s x r m
+unfolding plainNote forgetsOf recordEvent ownEvent
+plain-is s x r m e =
+    split (eqb (r .label) (x .label))
+    (λ a. split (eqb (r .kind) 1)
+    (λ b. rw (a, b))
+    (λ b. split (eqb (r .kind) 2)
+    (λ c. rw (a, b, c))
+    (λ c. split (eqb (r .kind) 3)
+    (λ d. rw (a, b, c, d))
+    (λ d. rw (a, b, c, d, e)))))
+    (λ a. rw a)
+
+note-is : (b : Bool) (s : Session) (x : Pacing) (r : Record) (m : List ℕ) → Meant b r → noteFor b s x r m ≡ noteOf s x r m
+note-is true s x r m e = refl
+note-is false s x r m e = plain-is s x r m e
+
 module _ (b : Bool) where
   pub noted : (ys : List Session) (sound : Bool) (x : Pacing) (r : Record) (m : List ℕ) → length ys < 2 ^ 64 → length m < 2 ^ 64
       → (n : ℕ) → n ≡ setSought x r → (l : ℕ) → l ≡ x .label → (d : ℕ) → d ≡ 0 → (p : ℕ) → p ≡ firstHit l d n ys → (s : Session) → s ≡ getD ys p absent
-      → (k : Pace) → k ≡ noteOf s x r m → (f : Fed) → f ≡ x .fed → (o : Outcome) (zs : List Session) → (Meant b r → Calls ys f r m sound o zs) → (t : Paced) → t ≡ toldBy k o → Meant b r → Paces ys x r m sound t zs
+      → (k : Pace) → k ≡ noteFor b s x r m → (f : Fed) → f ≡ x .fed → (o : Outcome) (zs : List Session) → (Meant b r → Calls ys f r m sound o zs) → (t : Paced) → t ≡ toldBy k o → Meant b r → Paces ys x r m sound t zs
   noted ys sound x r m long short n en l el d ed p ep s es k ek f ef o zs called t et meant =
       let at : p ≡ firstHit (x .label) 0 (setSought x r) ys =
       ep ∙ ap (λ (i : ℕ). firstHit i d n ys) el ∙ ap (λ (i : ℕ). firstHit (x .label) i n ys) ed ∙ ap (λ (i : ℕ). firstHit (x .label) 0 i ys) en in (
         o,
         subst (λ (g : Fed). Calls ys g r m sound o zs) ef (called meant),
-        et ∙ ap (λ (i : Pace). toldBy i o) (ek ∙ ap (λ (i : Session). noteOf i x r m) (es ∙ ap (λ (i : ℕ). getD ys i absent) at)),
+        et ∙ ap (λ (i : Pace). toldBy i o) (ek ∙ note-is b s x r m meant ∙ ap (λ (i : Session). noteOf i x r m) (es ∙ ap (λ (i : ℕ). getD ys i absent) at)),
       )
 
   abbrev pub calls : call.NotedCall sessionP boolP pacingP recordP u64P u32P u64P paceP fedP outcomeP pacedP
@@ -51,7 +71,7 @@ module _ (b : Bool) where
     other = λ x. 0;
     find = λ ys n l d. firstHit l d n ys;
     read = λ ys p. getD ys p absent;
-    note = noteOf;
+    note = noteFor b;
     fed = λ x. x .fed;
     Did = λ ys sound f r m o zs. Meant b r → Calls ys f r m sound o zs;
     told = toldBy;

@@ -2,7 +2,7 @@
 -- Assumes nothing.
 use Prim.Native.Nat.{ℕ, _+_, _≤_, _<_, _^_}
 use mathlib.Core.Path.{_≡_}
-use mathlib.Core.Bool.{Bool, true, cond, _&&_}
+use mathlib.Core.Bool.{Bool, true, false, cond, _&&_, _||_}
 use mathlib.Core.List.{List}
 use lib.Dec.{eqb}
 use lib.ListN.{length, getD}
@@ -17,6 +17,7 @@ use Rattle.capture.specs.Lines.{numbered}
 use Rattle.feed.specs.Calling.{bodyAt, behindOf, Calls}
 use Rattle.interval.specs.declared.Pace.{Pace}
 use Rattle.interval.specs.Records.{recordEvent}
+use Rattle.interval.specs.declared.Event.the-variants.{Forgotten}
 use Rattle.interval.specs.Pacing.{pacedBy}
 use Rattle.pace.specs.declared.Pacing.{Pacing}
 use Rattle.pace.specs.declared.calls.Paced.{Paced}
@@ -29,6 +30,19 @@ setSought x r = cond (eqb (r .label) (x .label)) (x .fed .head .occupied) 0
 -- what is kept of the label where the record is accepted
 abbrev pub noteOf : Session → Pacing → Record → List ℕ → Pace
 noteOf before x r input = pacedBy (x .pace) (recordEvent before (x .label) r (bodyAt input (x .fed) r))
+
+-- an open, a close or a lock of the label
+unfoldable pub forgetsOf : ℕ → Record → Bool
+forgetsOf l r = eqb (r .label) l && (eqb (r .kind) 1 || (eqb (r .kind) 2 || eqb (r .kind) 3))
+
+-- the same of a record that brings no message, from the record alone
+unfoldable pub plainNote : Pacing → Record → Pace
+plainNote x r = cond (forgetsOf (x .label) r) (pacedBy (x .pace) Forgotten) (x .pace)
+
+-- by whether the record brings a message
+abbrev pub noteFor : Bool → Session → Pacing → Record → List ℕ → Pace
+noteFor true before x r input = noteOf before x r input
+noteFor false before x r input = plainNote x r
 
 abbrev pub toldBy : Pace → Outcome → Paced
 toldBy n o = record { head = o .head; answer = o .answer; noted = n }

@@ -5,6 +5,7 @@ use crate::records::fed_of;
 use crate::records::label_asked;
 use crate::records::no_discriminator;
 use crate::records::noted_of;
+use crate::records::noted_plain;
 use crate::records::paced_by;
 use crate::records::set_sought;
 use capture::Record;
@@ -65,7 +66,7 @@ pub fn other_paced(
     let discriminator = no_discriminator(x);
     let place = find(&*row, occupied, label, discriminator);
     let before = record_at(&*row, place);
-    let n = noted_of(before, x, r, input);
+    let n = noted_plain(before, x, r, input);
     let f = fed_of(x);
     let o = other_call(row, hints, sound, f, r, input);
     paced_by(n, o)

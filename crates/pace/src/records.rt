@@ -13,6 +13,8 @@ use feed::number_after;
 use interval::Pace;
 use interval::event_of;
 use interval::pace_by;
+use octets::both;
+use octets::either;
 use session::Session;
 use step::Outcome;
 use table::Head;
@@ -22,7 +24,7 @@ ghost use lib.ListN.{drop};
 ghost use Rattle.capture.specs.Records.{recordFrom};
 ghost use Rattle.feed.specs.Calling.{messageNext};
 ghost use Rattle.pace.specs.Pacing.{moreOf};
-ghost use Rattle.pace.specs.Calling.{setSought, noteOf, toldBy, keptBy};
+ghost use Rattle.pace.specs.Calling.{setSought, noteOf, forgetsOf, plainNote, toldBy, keptBy};
 
 // A whole record stands next. The buffer's length is not asked: it is handed in because loops of one
 // shape share one proof.
@@ -97,6 +99,28 @@ pub fn noted_of(before: Session, x: Pacing, r: Record, input: &[u8]) -> Pace
             body_at(input, x.fed.used, r.size as usize),
         ),
     )
+}
+
+// An open, a close or a lock of the label: its last CC is forgotten.
+fn forgets(label: u32, r: Record) -> bool
+    ensures { λ b. ⌜ b ≡ forgetsOf label r ⌝ }
+{
+    let ends = either(r.kind == 1, either(r.kind == 2, r.kind == 3));
+    both(r.label == label, ends)
+}
+
+// The same behind a record that brings no message: nothing is read of the session and of the octets.
+pub fn noted_plain(_before: Session, x: Pacing, r: Record, _input: &[u8]) -> Pace
+    ensures { λ n. ⌜ n ≡ plainNote x r ⌝ }
+{
+    let old = x.pace;
+    let account = old.account;
+    let forgotten = Pace {
+        account: account,
+        reading: 0,
+        heard: false,
+    };
+    pace_if(forgets(x.label, r), forgotten, old)
 }
 
 pub fn paced_by(n: Pace, o: Outcome) -> Paced
