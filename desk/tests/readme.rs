@@ -34,10 +34,8 @@ fn folder() -> PathBuf {
     let folder = Path::new(env!("CARGO_TARGET_TMPDIR")).join("readme");
     let _ = std::fs::remove_dir_all(&folder);
     std::fs::create_dir_all(&folder).expect("a folder");
-    for part in ["crates", "peer"] {
-        let there = package().join("..").join(part);
-        std::os::unix::fs::symlink(there, folder.join(part)).expect("a link");
-    }
+    let there = package().join("../crates");
+    std::os::unix::fs::symlink(there, folder.join("crates")).expect("a link");
     folder
 }
 
