@@ -1,95 +1,211 @@
 // What the desk asks of two captures of one fibre: the two files from the arguments, what differs to
-// standard output, an entry a line, and where the rest of the first begins. A file of more than
-// 262,144 octets is not taken, and that is said.
-use libc::STDOUT_FILENO;
-use stored::Content;
+// standard output, an entry a line, and where the rest of the first begins. Files of any length, in
+// constant memory: each is read once to see whether it is bad, and then both once more, pair by pair.
+mod window;
 
+use comparison::Marks;
+use libc::STDOUT_FILENO;
+use window::Window;
+use window::filled;
+use window::left;
+use window::opened;
+use window::passed;
+use window::seen;
+
+// The place where the rest begins, the number of the pair to come, and whether all agreed so far.
+struct Told {
+    rest: u64,
+    number: u64,
+    agree: bool,
+}
+
+// Both files before a pair, what was told of those before it, and whether there was one.
+struct Pair {
+    first: Window,
+    second: Window,
+    told: Told,
+    go: bool,
+}
+
+// ---- the lines
 fn say(text: &[u8], n: usize) {
     io::write_all(STDOUT_FILENO, octets::part(text, 0, n));
 }
 
-// ---- the files
-// The file that argument i names. One octet more than is taken has room.
-fn read_argument(i: usize, into: &mut [u8]) -> Content {
-    let mut name = io::buffer();
-    let n = os::arg(i, &mut name);
-    stored::read_named(&mut name, n, b"", into)
+fn say_pair(number: u64, m: Marks) {
+    let mut lines = [0u8; 512];
+    let n = comparison::put_pair(&mut lines, 0, number, m);
+    say(&lines, n);
 }
 
-// Why a file is not compared.
-fn say_unread(which: &[u8], c: Content, room: usize) {
-    stored::say(which);
-    if c.size < room {
-        stored::say(b" cannot be read\n");
-    } else {
-        stored::say(b" has more than 262144 octets\n");
-    }
-}
-
-// ---- the lines
-fn entry_at(list: &[u64], i: usize) -> u64 {
-    if i < list.len() {
-        return list[i];
-    }
-    0
-}
-
-fn say_entry(entry: u64) {
+fn say_refused(answer: u64) {
     let mut line = [0u8; 64];
-    let n = comparison::put_entry(&mut line, 0, entry);
+    let n = comparison::put_refused(&mut line, 0, answer);
     say(&line, n);
 }
 
-fn say_list(list: &[u64], count: usize) {
-    let mut i: usize = 0;
-    while i < count {
-        say_entry(entry_at(list, i));
-        i += 1;
-    }
-}
-
-fn say_refused(answer: u32) {
+fn say_rest(place: u64) {
     let mut line = [0u8; 64];
-    let n = comparison::put_refused(&mut line, 0, answer as u64);
+    let n = comparison::put_rest(&mut line, 0, place);
     say(&line, n);
 }
 
-fn say_rest(first: &[u8], second: &[u8]) {
-    let mut line = [0u8; 64];
-    let place = comparison::rest_place(first, second);
-    let n = comparison::put_rest(&mut line, 0, place as u64);
-    say(&line, n);
+// ---- each file by itself
+// One record further, or none.
+fn pass_record(w: Window, buf: &mut [u8]) -> Window {
+    let f = filled(w, &mut *buf);
+    let step = comparison::step_of(seen(f, &*buf));
+    passed(f, step)
 }
 
-// Captures of this length have at most 16,383 records, and each of these at most five entries.
-fn tell(first: &[u8], second: &[u8]) {
-    let mut list = [0u64; 81_920];
-    let c = comparison::compare(first, second, &mut list);
-    if c.answer != 0 {
-        say_refused(c.answer);
-        return;
+// Behind the last whole record. The number of records is bounded by one that no run uses up.
+fn pass_records(from: Window, buf: &mut [u8]) -> Window {
+    let mut w = from;
+    let mut go = true;
+    let mut turns = u64::MAX;
+    while turns > 0 && go {
+        let next = pass_record(w, &mut *buf);
+        go = w.place < next.place;
+        w = next;
+        turns -= 1;
     }
-    say_list(&list, c.count);
-    say_rest(first, second);
+    w
+}
+
+// Whether the file that argument i names is a capture from its header to its end.
+fn is_good(w: Window, buf: &mut [u8]) -> bool {
+    let f = filled(w, &mut *buf);
+    if !capture::header_fits(seen(f, &*buf)) {
+        return false;
+    }
+    let end = pass_records(passed(f, 8), buf);
+    left(end) == 0
+}
+
+// That a file cannot be read, or that its capture is bad, is said.
+fn is_compared(i: usize, unread: &[u8], answer: u64, buf: &mut [u8]) -> bool {
+    let w = opened(i);
+    if w.file < 0 {
+        stored::say(unread);
+        return false;
+    }
+    let good = is_good(w, buf);
+    libc::close(w.file);
+    if !good {
+        say_refused(answer);
+    }
+    good
+}
+
+// ---- both, pair by pair
+fn next_number(n: u64) -> u64 {
+    if n < u64::MAX {
+        return n + 1;
+    }
+    n
+}
+
+// What a pair is to what is told. The rest begins with the first record that differs, and an extra
+// one of the second leaves none: there the first is at its end.
+fn told_by(t: Told, m: Marks, place: u64) -> Told {
+    let number = next_number(t.number);
+    if !t.agree {
+        return Told {
+            rest: t.rest,
+            number: number,
+            agree: false,
+        };
+    }
+    let alike = comparison::is_unmarked(m) && !m.first;
+    Told {
+        rest: place,
+        number: number,
+        agree: alike,
+    }
+}
+
+fn fill_both(p: Pair, first: &mut [u8], second: &mut [u8]) -> Pair {
+    let a = filled(p.first, first);
+    let b = filled(p.second, second);
+    let told = p.told;
+    Pair {
+        first: a,
+        second: b,
+        told,
+        go: p.go,
+    }
+}
+
+// One pair, of what is at hand.
+fn tell_next(p: Pair, first: &[u8], second: &[u8]) -> Pair {
+    let s = seen(p.first, first);
+    let t = seen(p.second, second);
+    let m = comparison::marks_of(s, t);
+    say_pair(p.told.number, m);
+    let told = told_by(p.told, m, p.first.place);
+    let n = comparison::step_of(s);
+    let k = comparison::step_of(t);
+    let a = passed(p.first, n);
+    let b = passed(p.second, k);
+    Pair {
+        first: a,
+        second: b,
+        told,
+        go: n > 0 || k > 0,
+    }
+}
+
+fn tell_pair(p: Pair, first: &mut [u8], second: &mut [u8]) -> Pair {
+    let q = fill_both(p, &mut *first, &mut *second);
+    tell_next(q, &*first, &*second)
+}
+
+// Pair by pair, and then the place where the rest begins.
+fn tell(start: Pair, first: &mut [u8], second: &mut [u8]) -> u64 {
+    let mut p = start;
+    let mut go = true;
+    let mut turns = u64::MAX;
+    while turns > 0 && go {
+        p = tell_pair(p, &mut *first, &mut *second);
+        go = p.go;
+        turns -= 1;
+    }
+    p.told.rest
+}
+
+// A file behind its header.
+fn behind_header(i: usize, buf: &mut [u8]) -> Window {
+    let w = filled(opened(i), buf);
+    passed(w, 8)
+}
+
+fn compare_files(first: &mut [u8], second: &mut [u8]) -> u64 {
+    let a = behind_header(1, &mut *first);
+    let b = behind_header(2, &mut *second);
+    let told = Told {
+        rest: 8,
+        number: 1,
+        agree: true,
+    };
+    let p = Pair {
+        first: a,
+        second: b,
+        told,
+        go: true,
+    };
+    tell(p, first, second)
 }
 
 fn run() {
-    let mut first = [0u8; 262_145];
-    let a = read_argument(1, &mut first);
-    if !a.whole {
-        say_unread(b"FIRST", a, first.len());
+    let mut first = io::large_buffer();
+    let mut second = io::large_buffer();
+    if !is_compared(1, b"FIRST cannot be read\n", 22, &mut first) {
         return;
     }
-    let mut second = [0u8; 262_145];
-    let b = read_argument(2, &mut second);
-    if !b.whole {
-        say_unread(b"SECOND", b, second.len());
+    if !is_compared(2, b"SECOND cannot be read\n", 23, &mut second) {
         return;
     }
-    tell(
-        octets::part(&first, 0, a.size),
-        octets::part(&second, 0, b.size),
-    );
+    say_rest(compare_files(&mut first, &mut second));
 }
 
 fn main() {

@@ -128,7 +128,7 @@ least n m s h =
     (λ e. rw (length-take-le (n + m) s (leb-true (n + m) (length s) e)) (omega arith))
     (λ e. let l = leb-false (n + m) (length s) e in rw (take-all (n + m) s (omega arith)) h)
 
-record-cut : (m : ℕ) (s : List ℕ) → 16 ≤ m → recordIn (take m s) ≡ recordIn s
+pub record-cut : (m : ℕ) (s : List ℕ) → 16 ≤ m → recordIn (take m s) ≡ recordIn s
 unfolding recordIn
 record-cut m s h = rw (at-front 8 m s 0 (omega arith), at-front 4 m s 8 (omega arith), at-front 2 m s 12 (omega arith), at-front 2 m s 14 (omega arith))
 
@@ -139,17 +139,17 @@ module _ (s : List ℕ) (m : ℕ) (e : standsIn 16 s ≡ true) where
   cut-record : recordIn cut ≡ recordIn s
   cut-record = record-cut (stepOf s + m) s (omega (arith, step-least s e))
 
-  cut-size : rawSize 16 cut ≡ stepOf s
+  pub cut-size : rawSize 16 cut ≡ stepOf s
   cut-size = ap (λ (r : Record). 16 + r .size) cut-record ∙ sym (step-stands s e)
 
-  cut-stands : standsIn 16 cut ≡ true
+  pub cut-stands : standsIn 16 cut ≡ true
   unfolding standsIn
   cut-stands =
       let sound = and-both (not (isBroken (recordIn s .kind) (recordIn s .size))) (leb (rawSize 16 s) (length s)) e .0 in
       both-true (ap (λ (r : Record). not (isBroken (r .kind) (r .size))) cut-record ∙ sound)
       (le-leb (rawSize 16 cut) (length cut) (omega (arith, cut-size, least (stepOf s) m s (step-most s))))
 
-  cut-raw : rawIn 16 cut ≡ rawIn 16 s
+  pub cut-raw : rawIn 16 cut ≡ rawIn 16 s
   unfolding rawIn
   cut-raw =
       let size = recordIn s .size in

@@ -5,3 +5,4 @@ pub mod Whole
 pub mod Exactly
 pub mod Agreement
 pub mod Worked
+pub mod Fronts

@@ -1,10 +1,11 @@
 -- The lines for people: one for each entry, one for where the rest begins, one for a refusal.
 -- Assumes nothing.
 use Prim.Native.Nat.{ℕ, _/_, _%_}
-use mathlib.Core.Bool.{cond}
+use mathlib.Core.Bool.{Bool, cond}
 use mathlib.Core.List.{List, [], _∷_, _++_}
 use lib.Dec.{eqb}
 use Rattle.capture.specs.Lines.{decimal}
+use Rattle.comparison.specs.declared.Marks.{Marks}
 
 -- ` time`, ` label`, ` kind`, ` length`, ` body`, ` only in FIRST`, ` only in SECOND`, each to its line's end
 abbrev pub codeText : ℕ → List ℕ
@@ -20,6 +21,25 @@ codeText code =
 -- `7 length`: the record's number and what differs
 unfoldable pub entryLine : ℕ → List ℕ
 entryLine e = decimal (e / 8) ++ codeText (e % 8)
+
+-- a line for each entry
+unfoldable pub linesOf : List ℕ → List ℕ
+linesOf [] = []
+linesOf (e ∷ l) = entryLine e ++ linesOf l
+
+-- the lines of record n by what is marked: the number and what differs
+abbrev pub markLine : ℕ → Bool → ℕ → List ℕ
+markLine n test code = cond test (decimal n ++ codeText code) []
+
+unfoldable pub pairText : ℕ → Marks → List ℕ
+pairText n m =
+    markLine n (m .time) 0
+    ++ (markLine n (m .label) 1
+    ++ (markLine n (m .kind) 2
+    ++ (markLine n (m .size) 3
+    ++ (markLine n (m .body) 4
+    ++ (markLine n (m .first) 5
+    ++ markLine n (m .second) 6)))))
 
 -- `rest `, `refused `
 abbrev pub wRest : List ℕ

@@ -6,10 +6,15 @@ mod remaining;
 mod words;
 
 pub use entries::compare;
+pub use pair::is_unmarked;
+pub use pair::marks_of;
+pub use pair::stands;
+pub use pair::step_of;
 pub use remaining::bad_capture;
 pub use remaining::rest;
 pub use remaining::rest_place;
 pub use words::put_entry;
+pub use words::put_pair;
 pub use words::put_refused;
 pub use words::put_rest;
 
@@ -20,12 +25,12 @@ pub struct Compared {
 }
 
 // What is listed of the records at one position: the fields that differ, or whose an extra one is.
-struct Marks {
-    time: bool,
-    label: bool,
-    kind: bool,
-    size: bool,
-    body: bool,
-    first: bool,
-    second: bool,
+pub struct Marks {
+    pub time: bool,
+    pub label: bool,
+    pub kind: bool,
+    pub size: bool,
+    pub body: bool,
+    pub first: bool,
+    pub second: bool,
 }

@@ -87,7 +87,8 @@ pub fn marks_of(s: &[u8], t: &[u8]) -> Marks
     }
 }
 
-fn is_unmarked(m: Marks) -> bool
+// Whether no field differs.
+pub fn is_unmarked(m: Marks) -> bool
     ensures { λ r. ⌜ r ≡ unmarked m ⌝ }
 {
     if m.time {
