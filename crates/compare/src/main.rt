@@ -72,7 +72,7 @@ fn pass_records(from: Window, buf: &mut [u8]) -> Window {
     w
 }
 
-// Whether the file that argument i names is a capture from its header to its end.
+// Whether a file is a capture from its header to its end.
 fn is_good(w: Window, buf: &mut [u8]) -> bool {
     let f = filled(w, &mut *buf);
     if !capture::header_fits(seen(f, &*buf)) {
@@ -82,7 +82,7 @@ fn is_good(w: Window, buf: &mut [u8]) -> bool {
     left(end) == 0
 }
 
-// That a file cannot be read, or that its capture is bad, is said.
+// Whether the file that argument i names is good. That it cannot be read, or that it is bad, is said.
 fn is_compared(i: usize, unread: &[u8], answer: u64, buf: &mut [u8]) -> bool {
     let w = opened(i);
     if w.file < 0 {
