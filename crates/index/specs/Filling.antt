@@ -3,7 +3,7 @@
 use Prim.Native.Nat.{ℕ, zero, suc, _+_, _-_, _/_}
 use mathlib.Core.Bool.{Bool, cond}
 use mathlib.Core.List.{List}
-use lib.ListN.{length, drop}
+use lib.ListN.{length, drop, set}
 use lib.Dec.{eqb, ltb}
 use Rattle.octets.specs.Choice.{bar, orElse}
 use Rattle.session.specs.declared.Session.{Session}
@@ -72,3 +72,24 @@ begunOf log label room =
       filling = fillingFrom label (cond (eqb (buildAnswer log room) 0) (entriesOf (countOf log .count)) 0);
       answer = buildAnswer log room;
     }
+
+-- beside the records two lists of numbers: the clock of each entry, and the place of the next record there
+pub record Noted : Type 0 where
+  pub filling : Filling
+  pub clocks : List ℕ
+  pub places : List ℕ
+
+abbrev pub noteOne : Noted → List ℕ → Noted
+noteOne a log =
+    record {
+      filling = filledBy (a .filling) log;
+      clocks = set (a .clocks) (a .filling .at) (filledBy (a .filling) log .point .clock);
+      places = set (a .places) (a .filling .at) (filledBy (a .filling) log .place);
+    }
+
+unfoldable pub notesOf : ℕ → List ℕ → Noted → Noted
+notesOf zero log a = a
+notesOf (suc n) log a = cond (unfilled (a .filling)) (notesOf n log (noteOne a log)) a
+
+abbrev pub noteAll : List ℕ → List ℕ → Filling → List ℕ → Noted
+noteAll clocks places x log = notesOf (x .count - x .at) log (record { filling = x; clocks = clocks; places = places })

@@ -43,9 +43,8 @@ fn reads_for(x: Filling) -> usize
     256
 }
 
-// What stands at the entry. The record that lies there is not looked at; it is handed in because calls
-// of one shape share one proof.
-fn filled_by(_s: Session, x: Filling, log: &[u8]) -> Filling
+// What stands at the entry, and the next one.
+pub(crate) fn next_entry(x: Filling, log: &[u8]) -> Filling
     ensures { λ r. ⌜ r ≡ filledBy x (now (log .entry)) ⌝ }
 {
     let point = x.point;
@@ -64,6 +63,14 @@ fn filled_by(_s: Session, x: Filling, log: &[u8]) -> Filling
         count: x.count,
         label: x.label,
     }
+}
+
+// The record that lies there is not looked at; it is handed in because calls of one shape share one
+// proof.
+fn filled_by(_s: Session, x: Filling, log: &[u8]) -> Filling
+    ensures { λ r. ⌜ r ≡ filledBy x (now (log .entry)) ⌝ }
+{
+    next_entry(x, log)
 }
 
 fn stored_by(_s: Session, d: Filling) -> Session
@@ -93,7 +100,7 @@ pub fn fill_one(records: &mut [Session], x: Filling, log: &[u8]) -> Filling
 }
 
 // Whether an entry is still to be filled in.
-fn is_unfilled(x: Filling) -> bool
+pub(crate) fn is_unfilled(x: Filling) -> bool
     ensures { λ r. ⌜ r ≡ unfilled x ⌝ }
 {
     x.at < x.count

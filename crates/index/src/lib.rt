@@ -1,11 +1,13 @@
 // The index of a log for one label: its records filled in, entry by entry.
 mod begin;
 mod entries;
+mod numbers;
 
 pub use begin::begin_fill;
 pub use entries::fill;
 pub use entries::fill_one;
 use log::Point;
+pub use numbers::fill_numbers;
 
 // How far an index is filled in: what stands before the entry that comes next, the place of the next
 // record of the log there, that entry, how many there are, and the label.

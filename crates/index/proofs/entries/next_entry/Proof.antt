@@ -1,4 +1,4 @@
--- `index::filled_by` meets its contract.
+-- `index::next_entry` meets its contract.
 -- Assumes nothing.
 use Prim.Native.Nat.{_-_}
 use native.Mathlib.Omega.{arith}
@@ -8,11 +8,11 @@ use borrow.Author.Needs.{needs}
 use Rattle.log.specs.declared.Ended.{Ended}
 use Rattle.log.specs.Reading.{readTo, never}
 use Rattle.log.proofs.Turns.{left-most}
-use Rattle.index.proofs.entries.filled_by.Statement.{statement}
-use Rattle.index.proofs.entries.filled_by.Tie as tie
+use Rattle.index.proofs.entries.next_entry.Statement.{statement}
+use Rattle.index.proofs.entries.next_entry.Tie as tie
 
-sub-t9 : tie.Need-sub-t9
-sub-t9 c =
+sub-t8 : tie.Need-sub-t8
+sub-t8 c =
     let a = c .before .before .before .before .before .before .before .args in
     let rest = c .before .before .before .before .from-place in
     omega (
@@ -29,5 +29,5 @@ returns c =
     let e = c .before .before .before .read-to .ensures ∙ (λ i. readTo (c .before .before .before .before .reads-for .ensures i) (a .x .label) never (c .before .before .before .before .before .from-place .ensures i) (a .x .point)) in
     λ i. record { point = e i .point; place = length (a .log .now) - e i .left; at = c .onward .ensures i; count = a .x .count; label = a .x .label }
 
-pub filled-by-spec : {M : Type 1} → statement M
-filled-by-spec = tie.close (tie.spec (λ c κs. search needs) (λ c κs. search needs) (λ c κs. search needs) sub-t9 (λ c κs. search needs) returns)
+pub next-entry-spec : {M : Type 1} → statement M
+next-entry-spec = tie.close (tie.spec (λ c κs. search needs) (λ c κs. search needs) (λ c κs. search needs) sub-t8 (λ c κs. search needs) returns)
