@@ -1,8 +1,11 @@
 // The index of a log for one label: its records filled in, entry by entry.
+mod asking;
 mod begin;
 mod entries;
 mod numbers;
 
+pub use asking::answer_at;
+pub use asking::ask_refusal;
 pub use begin::begin_fill;
 pub use entries::fill;
 pub use entries::fill_one;
@@ -23,4 +26,11 @@ pub struct Filling {
 pub struct Begun {
     pub filling: Filling,
     pub answer: u32,
+}
+
+// What an index says of itself: the octets of its log, its label, and how many entries it has.
+pub struct IndexHead {
+    pub length: u64,
+    pub label: u32,
+    pub count: u32,
 }
