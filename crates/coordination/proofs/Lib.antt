@@ -3,3 +3,7 @@ pub mod Octets
 pub mod Says
 pub mod RoundTrip
 pub mod Examples
+pub mod Starts
+pub mod Verdict
+pub mod WalkEnds
+pub mod Refusals
