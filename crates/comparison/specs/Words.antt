@@ -7,7 +7,7 @@ use lib.Dec.{eqb}
 use Rattle.capture.specs.Lines.{decimal}
 use Rattle.comparison.specs.declared.Marks.{Marks}
 
--- ` time`, ` label`, ` kind`, ` length`, ` body`, ` only in FIRST`, ` only in SECOND`, each to its line's end
+-- ` time`, ` label`, ` kind`, ` length`, ` body`, ` only in the first`, ` only in the second`, each to its line's end
 abbrev pub codeText : ℕ → List ℕ
 codeText code =
     cond (eqb code 0) (32 ∷ 116 ∷ 105 ∷ 109 ∷ 101 ∷ 10 ∷ [])
@@ -15,8 +15,8 @@ codeText code =
     (cond (eqb code 2) (32 ∷ 107 ∷ 105 ∷ 110 ∷ 100 ∷ 10 ∷ [])
     (cond (eqb code 3) (32 ∷ 108 ∷ 101 ∷ 110 ∷ 103 ∷ 116 ∷ 104 ∷ 10 ∷ [])
     (cond (eqb code 4) (32 ∷ 98 ∷ 111 ∷ 100 ∷ 121 ∷ 10 ∷ [])
-    (cond (eqb code 5) (32 ∷ 111 ∷ 110 ∷ 108 ∷ 121 ∷ 32 ∷ 105 ∷ 110 ∷ 32 ∷ 70 ∷ 73 ∷ 82 ∷ 83 ∷ 84 ∷ 10 ∷ [])
-    (32 ∷ 111 ∷ 110 ∷ 108 ∷ 121 ∷ 32 ∷ 105 ∷ 110 ∷ 32 ∷ 83 ∷ 69 ∷ 67 ∷ 79 ∷ 78 ∷ 68 ∷ 10 ∷ []))))))
+    (cond (eqb code 5) (32 ∷ 111 ∷ 110 ∷ 108 ∷ 121 ∷ 32 ∷ 105 ∷ 110 ∷ 32 ∷ 116 ∷ 104 ∷ 101 ∷ 32 ∷ 102 ∷ 105 ∷ 114 ∷ 115 ∷ 116 ∷ 10 ∷ [])
+    (32 ∷ 111 ∷ 110 ∷ 108 ∷ 121 ∷ 32 ∷ 105 ∷ 110 ∷ 32 ∷ 116 ∷ 104 ∷ 101 ∷ 32 ∷ 115 ∷ 101 ∷ 99 ∷ 111 ∷ 110 ∷ 100 ∷ 10 ∷ []))))))
 
 -- `7 length`: the record's number and what differs
 unfoldable pub entryLine : ℕ → List ℕ

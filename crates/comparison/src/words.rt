@@ -27,9 +27,9 @@ fn put_code(out: &mut [u8], at: usize, code: u64) -> usize
         return put_words(out, at, b" body\n");
     }
     if code == 5 {
-        return put_words(out, at, b" only in FIRST\n");
+        return put_words(out, at, b" only in the first\n");
     }
-    put_words(out, at, b" only in SECOND\n")
+    put_words(out, at, b" only in the second\n")
 }
 
 // An entry of the list.
