@@ -1,20 +1,18 @@
 -- Records as values: what the cursor takes for whole stands there; one record more, and none.
 -- Assumes nothing.
-use Prim.Native.Nat.{ℕ, zero, suc, _+_, _*_, _≤_}
+use Prim.Native.Nat.{ℕ, zero, suc, _+_, _≤_}
 use native.Mathlib.Omega.{arith}
 use mathlib.Core.Path.{_≡_, refl, sym, ap, _∙_}
-use mathlib.Core.Bool.{Bool, true, false, not, cond, _&&_}
+use mathlib.Core.Bool.{Bool, true, false, not, cond}
 use mathlib.Core.List.{List, [], _∷_}
 use lib.Dec.{eqb, ltb, leb}
 use lib.ListN.{length, drop, length-drop}
 use borrow.Author.Tests.{leb-true, leb-false, lt-ltb, le-ltb, ne-eqb}
 use Rattle.octets.proofs.Chain.{and-both}
 use Rattle.rules.proofs.Bools.{split}
-use Rattle.capture.specs.declared.Record.{Record}
-use Rattle.capture.specs.declared.Next.{Next}
-use Rattle.capture.specs.declared.Next.the-variants.{Whole, Broken, Short, End}
-use Rattle.capture.specs.Records.{recordIn, isBroken, nextOf, nextIn, isWhole}
-use Rattle.capture.specs.Raws.{Raw, Raws, rawIn, rawSize, standsIn, rawsBy, rawsIn}
+use Rattle.capture.specs.declared.Next.the-variants.{Broken, Short, End}
+use Rattle.capture.specs.Records.{recordIn, isBroken, nextIn, isWhole}
+use Rattle.capture.specs.Raws.{Raws, rawIn, rawSize, standsIn, rawsBy, rawsIn}
 
 -- ---- the cursor
 broken : (a b : Bool) → isWhole (cond a End (cond b Short Broken)) ≡ false

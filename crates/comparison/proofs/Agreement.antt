@@ -1,26 +1,24 @@
 -- What the rest of the first capture is.
 -- Assumes nothing.
-use Prim.Native.Nat.{ℕ, zero, suc, _+_, _*_, _-_, _/_, _%_, _≤_, _<_}
+use Prim.Native.Nat.{ℕ, zero, suc, _+_, _%_, _≤_, _<_}
 use native.Mathlib.Omega.{arith}
-use native.Mathlib.Nat.{add-zero}
-use mathlib.Core.Path.{_≡_, refl, sym, ap, subst, _∙_}
-use mathlib.Core.Bool.{Bool, true, false, not, cond, _&&_, _||_}
+use mathlib.Core.Path.{_≡_, refl, sym, ap, _∙_}
+use mathlib.Core.Bool.{Bool, true, false, not}
 use mathlib.Core.List.{List, [], _∷_, _++_, map}
-use lib.Dec.{eqb, ltb, leb, eqb·suc-zero}
-use lib.ListN.{length, take, drop, getD, length-drop, take-append-drop}
-use lib.Seq.{take-all, length-take-le, take-add, take-take, drop-drop, drop-at, getD-take, drop-nil}
-use borrow.Author.Tests.{leb-true, leb-false, le-leb, eqb-true, eqb-false, eq-eqb, ne-eqb}
-use Rattle.octets.specs.Numbers.{numberAt}
+use lib.Dec.{eqb, leb, eqb·suc-zero}
+use lib.ListN.{length, take, drop, take-append-drop}
+use lib.Seq.{take-all, length-take-le, take-add, take-take, drop-drop, drop-at, getD-take}
+use borrow.Author.Tests.{leb-true, leb-false, le-leb, eqb-true, eq-eqb, ne-eqb}
 use Rattle.octets.proofs.Chain.{and-both}
 use Rattle.octets.proofs.Cuts.{at-front}
 use Rattle.rules.proofs.Bools.{split, no-way, both-true}
 use Rattle.capture.specs.declared.Record.{Record}
-use Rattle.capture.specs.Records.{headerFits, headerIs, recordIn, isBroken}
+use Rattle.capture.specs.Records.{headerFits, recordIn, isBroken}
 use Rattle.capture.specs.Raws.{Raw, Raws, rawIn, rawSize, standsIn, rawsIn}
 use Rattle.capture.proofs.Raws.{stands-size, raws-none, raws-record}
 use Rattle.comparison.specs.Differences.{sameOctets, differ, only, fieldsOf, entry, differences, recordsOf, badCapture, listOf}
 use Rattle.comparison.specs.Rest.{alike, agreeing, restPlace, restOf}
-use Rattle.comparison.specs.Walk.{stepOf, marksBetween, unmarked, alikeIn}
+use Rattle.comparison.specs.Walk.{stepOf, alikeIn}
 use Rattle.comparison.specs.Agreement.{agreed, firstNumber, onlySecond, count, RestIs}
 use Rattle.comparison.proofs.Pairs.{step-stands, step-most, step-least, raws-there, raws-away, left-there, fewer, unmarked-alike, both-stand, same-step, alike-none, alike-more}
 use Rattle.comparison.proofs.Whole.{good-header, good-length, bad-cut}

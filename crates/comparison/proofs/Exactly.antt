@@ -1,15 +1,14 @@
 -- The list holds exactly what differs, rising; the captures exchanged give the same list with 5 and 6 exchanged.
 -- Assumes nothing.
-use Prim.Native.Nat.{ℕ, zero, suc, _+_, _*_, _-_, _%_, _≤_, _<_}
+use Prim.Native.Nat.{ℕ, zero, suc, _+_, _*_, _%_, _≤_, _<_}
 use native.Mathlib.Omega.{arith}
-use native.Mathlib.Nat.{add-zero, add-suc}
+use native.Mathlib.Nat.{add-zero}
 use mathlib.Core.Path.{_≡_, refl, sym, ap, _∙_}
 use mathlib.Core.Bool.{Bool, true, false, not, cond, _&&_, _||_}
 use mathlib.Core.List.{List, [], _∷_, _++_, map, map-append}
-use mathlib.Core.Option.{Option, none, some}
 use lib.Dec.{eqb, leb}
 use borrow.Author.Tests.{eq-eqb, ne-eqb, le-leb, eqb-true, leb-true}
-use Rattle.rules.proofs.Bools.{split, same-test, both-true}
+use Rattle.rules.proofs.Bools.{same-test, both-true}
 use Rattle.octets.proofs.Chain.{and-both}
 use Rattle.capture.specs.Raws.{Raw}
 use Rattle.comparison.specs.Differences.{sameOctets, differ, only, fieldsOf, entry, differences, recordsOf, listOf}

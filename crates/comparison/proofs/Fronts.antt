@@ -1,13 +1,13 @@
 -- Fronts of two captures: where 2,064 octets are there, or all that are left, the next pair of records is that of the whole. And its lines are those of its entries.
 -- Assumes nothing.
-use Prim.Native.Nat.{ℕ, suc, _+_, _*_, _-_, _/_, _%_, _≤_, _<_}
+use Prim.Native.Nat.{ℕ, _+_, _-_, _/_, _%_, _≤_, _<_}
 use native.Mathlib.Omega.{arith}
 use mathlib.Core.Path.{_≡_, refl, sym, ap, _∙_}
 use mathlib.Core.Logic.{_⊎_, inl, inr}
-use mathlib.Core.Bool.{Bool, true, false, not, cond, _&&_, _||_}
+use mathlib.Core.Bool.{Bool, true, false, not, _||_}
 use mathlib.Core.List.{List, [], _∷_, _++_, append-nil, append-assoc}
 use lib.Dec.{ltb, leb}
-use lib.ListN.{length, take, drop, length-take}
+use lib.ListN.{length, take, length-take}
 use lib.Seq.{take-all}
 use borrow.Author.Tests.{leb-true, le-leb, ltb-false}
 use Rattle.octets.proofs.Chain.{and-both}
@@ -18,7 +18,7 @@ use Rattle.capture.specs.Raws.{Raw, rawIn, rawSize, standsIn}
 use Rattle.capture.specs.Lines.{decimal}
 use Rattle.comparison.specs.declared.Marks.{Marks}
 use Rattle.comparison.specs.Differences.{only, entry}
-use Rattle.comparison.specs.Walk.{stepOf, marksBetween, extra, marksOf, marked}
+use Rattle.comparison.specs.Walk.{stepOf, marksOf, marked}
 use Rattle.comparison.specs.Words.{codeText, entryLine, linesOf, markLine, pairText}
 use Rattle.comparison.proofs.Pairs.{step-stands, step-none}
 use Rattle.comparison.proofs.Agreement.{record-cut, cut-stands, cut-raw}

@@ -6,8 +6,8 @@ use mathlib.Core.Bool.{Bool, true, false, cond, _&&_}
 use mathlib.Core.List.{List, [], _∷_, _++_}
 use lib.Dec.{eqb}
 use lib.ListN.{length, take, drop}
-use Rattle.capture.specs.Raws.{Raw, Raws, rawsIn}
-use Rattle.comparison.specs.Differences.{differences, recordsOf, badCapture, listOf}
+use Rattle.capture.specs.Raws.{Raw, rawsIn}
+use Rattle.comparison.specs.Differences.{recordsOf, badCapture, listOf}
 use Rattle.comparison.specs.Rest.{alike, restPlace, restOf}
 
 -- how many records agree before the first that differs, an extra one counting

@@ -1,7 +1,6 @@
 -- `compares::is_unwritten` is safe and ends: the measure is the number of entries that are left.
 -- Assumes nothing.
 use Prim.Native.Nat.{_-_}
-use native.Mathlib.Omega.{arith}
 use borrow.Author.Needs.{needs}
 use lib.ListN.{length}
 use Rattle.compares.proofs.is_unwritten.Statement.{statement}

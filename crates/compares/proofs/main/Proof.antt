@@ -1,9 +1,7 @@
 -- `compares::main` is safe and ends: the measure is the number of arguments that are left.
 -- Assumes nothing.
 use Prim.Native.Nat.{_-_}
-use native.Mathlib.Omega.{arith}
 use borrow.Author.Needs.{needs}
-use lib.ListN.{length}
 use Rattle.compares.proofs.main.Statement.{statement}
 use Rattle.compares.proofs.main.Tie as tie
 

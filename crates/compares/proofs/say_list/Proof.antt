@@ -1,9 +1,7 @@
 -- `compares::say_list` is safe and ends: the measure is the number of entries that are left.
 -- Assumes nothing.
 use Prim.Native.Nat.{_-_}
-use native.Mathlib.Omega.{arith}
 use borrow.Author.Needs.{needs}
-use lib.ListN.{length}
 use Rattle.compares.proofs.say_list.Statement.{statement}
 use Rattle.compares.proofs.say_list.Tie as tie
 

@@ -3,7 +3,6 @@
 use borrow.Author.Needs.{needs}
 use mathlib.Core.Path.{sym, _∙_}
 use native.Mathlib.Omega.{arith}
-use lib.ListN.{length}
 use Rattle.comparison.proofs.Whole.{said, refused-first, refused-second, refused-short, listed-all}
 use Rattle.comparison.proofs.entries.compare.Statement.{statement}
 use Rattle.comparison.proofs.entries.compare.Tie as tie

@@ -3,7 +3,6 @@
 use mathlib.Core.Path.{_≡_, refl, sym, _∙_}
 use Prim.Native.Nat.{_-_, _≤_}
 use native.Mathlib.Omega.{arith}
-use borrow.Author.Needs.{needs}
 use lib.ListN.{length, drop}
 use Rattle.comparison.specs.Differences.{sameOctets}
 use Rattle.comparison.proofs.Octets.{not-same, same-further, same-no-further, same-ended}

@@ -3,9 +3,7 @@
 use borrow.Author.Needs.{needs}
 use borrow.Author.Tests.{not-true, not-false}
 use native.Mathlib.Omega.{arith}
-use mathlib.Core.Path.{sym, ap, _∙_}
-use Prim.Native.Nat.{_+_}
-use Rattle.capture.specs.declared.Record.{Record}
+use mathlib.Core.Path.{sym, _∙_}
 use Rattle.comparison.proofs.Pairs.{step-none, step-read}
 use Rattle.comparison.proofs.pair.step_of.Statement.{statement}
 use Rattle.comparison.proofs.pair.step_of.Tie as tie

@@ -4,7 +4,7 @@ use borrow.Author.Needs.{needs}
 use borrow.Author.Tests.{ne-eqb}
 use mathlib.Core.Path.{_≡_, sym, ap, _∙_}
 use Prim.Native.Nat.{ℕ}
-use Rattle.capture.specs.Typing.{Put, typed}
+use Rattle.capture.specs.Typing.{typed}
 use Rattle.comparison.specs.Words.{codeText}
 use Rattle.comparison.proofs.words.put_code.Statement.{statement}
 use Rattle.comparison.proofs.words.put_code.Tie as tie

@@ -1,7 +1,6 @@
 -- `comparison::put_last` meets its contract.
 -- Assumes nothing.
 use borrow.Author.Needs.{needs}
-use Rattle.capture.specs.Typing.{Put}
 use Rattle.capture.proofs.Typing.{then}
 use Rattle.comparison.proofs.words.put_last.Statement.{statement}
 use Rattle.comparison.proofs.words.put_last.Tie as tie

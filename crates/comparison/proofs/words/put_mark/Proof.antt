@@ -4,9 +4,8 @@ use borrow.Author.Needs.{needs}
 use Rattle.capture.specs.Typing.{Put, typed}
 use Rattle.capture.proofs.Typing.{then, typed-none}
 use borrow.Author.Tests.{not-true, not-false}
-use mathlib.Core.Path.{_≡_, sym, ap, _∙_}
-use mathlib.Core.Bool.{Bool, true, false}
-use Prim.Native.Nat.{ℕ}
+use mathlib.Core.Path.{sym, ap, _∙_}
+use mathlib.Core.Bool.{Bool}
 use Rattle.comparison.specs.Words.{markLine}
 use Rattle.comparison.proofs.words.put_mark.Statement.{statement}
 use Rattle.comparison.proofs.words.put_mark.Tie as tie
