@@ -1,8 +1,18 @@
 // The dual-homing coordination (DHC) message of RFC 8185: read, and written in its plain form.
+mod numbers;
 mod read;
 mod tlv;
 mod write;
 
+pub use numbers::DhcNumbers;
+pub use numbers::DhcRead;
+pub use numbers::StatusNumbers;
+pub use numbers::SwitchingNumbers;
+pub use numbers::dhc_from;
+pub use numbers::dhc_marks;
+pub use numbers::dhc_numbers;
+pub use numbers::read_dhc_numbers;
+pub use numbers::write_dhc_numbers;
 pub use read::dhc_fields;
 pub use read::dhc_refusal;
 pub use read::read_dhc;
