@@ -7,3 +7,4 @@ pub mod Starts
 pub mod Verdict
 pub mod WalkEnds
 pub mod Refusals
+pub mod InNumbers
