@@ -8,3 +8,4 @@ pub mod Verdict
 pub mod WalkEnds
 pub mod Refusals
 pub mod InNumbers
+pub mod Bounds
