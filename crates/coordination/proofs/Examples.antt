@@ -4,7 +4,9 @@ use mathlib.Core.Path.{_≡_, refl}
 use mathlib.Core.Bool.{true, false}
 use mathlib.Core.List.{List, [], _∷_, _++_}
 use Prim.Native.Nat.{ℕ}
+use lib.ListN.{replicate}
 use Rattle.octets.specs.Numbers.{octetsOf}
+use Rattle.octets.specs.Writing.{Written, writing}
 use Rattle.octets.specs.Choice.{Answer, accepted, refused}
 use Rattle.gach.specs.Header.{headerRefusal, channelRefusal}
 use Rattle.coordination.specs.declared.Dhc.{Dhc}
@@ -14,7 +16,7 @@ use Rattle.coordination.specs.declared.NodeSwitching.{NodeSwitching}
 use Rattle.coordination.specs.declared.NodeSwitching.the-variants.{Absent as NoSwitching, Present as ASwitching}
 use Rattle.coordination.specs.Tlvs.{repeated, wrongLength, wrongTlv, tlvsOf}
 use Rattle.coordination.specs.Message.{tlvsRefusal, refusalWith, dhcRefusal, statusAt, switchingAt, dhcOf, readDhc}
-use Rattle.coordination.specs.Octets.{dhcOctets}
+use Rattle.coordination.specs.Octets.{fieldRefusal, dhcOctets}
 
 -- 32-bit numbers as octets
 abbrev octets : List ℕ → List ℕ
@@ -140,3 +142,33 @@ examples = eitherThere ++ (unread ++ (anyOrder ++ (short ++ (header ++ (shortFir
 pub examples-hold : answers examples ≡ expected examples
 unfolding headerRefusal channelRefusal repeated wrongLength wrongTlv tlvsOf tlvsRefusal refusalWith dhcRefusal statusAt switchingAt dhcOf readDhc
 examples-hold = refl
+
+-- written into so many octets of 170: what is answered, and the buffer afterwards
+abbrev written : PwStatus → NodeSwitching → ℕ → Written
+written status switching room =
+    writing (fieldRefusal (record { id = 7; status = status; switching = switching })) (dhcOctets (record { id = 7; status = status; switching = switching }))
+    (replicate room 170)
+
+-- 13 for one octet too few and not for all; 10 for neither TLV, before 13
+pub rooms-hold : written (AStatus 1 55 2 true true false) (ASwitching 1 56 2 true false) 55 .answer
+    ∷ written (AStatus 1 55 2 true true false) (ASwitching 1 56 2 true false) 56 .answer
+    ∷ written (AStatus 1 55 2 true true false) NoSwitching 35 .answer
+    ∷ written (AStatus 1 55 2 true true false) NoSwitching 36 .answer
+    ∷ written NoStatus (ASwitching 1 56 2 true false) 31 .answer
+    ∷ written NoStatus (ASwitching 1 56 2 true false) 32 .answer
+    ∷ written NoStatus NoSwitching 0 .answer
+    ∷ written NoStatus NoSwitching 56 .answer
+    ∷ []
+    ≡ 13 ∷ 0 ∷ 13 ∷ 0 ∷ 13 ∷ 0 ∷ 10 ∷ 10 ∷ []
+unfolding writing dhcOctets
+rooms-hold = refl
+
+-- a refused write changes no octet, and an accepted one leaves those behind the message
+pub buffers-hold : written (AStatus 1 55 2 true true false) NoSwitching 35 .buffer
+    ∷ written NoStatus (ASwitching 1 56 2 true false) 34 .buffer
+    ∷ []
+    ≡ replicate 35 170
+    ∷ (octets (0x10000009 ∷ 0x00000007 ∷ 0x00140000 ∷ 0x00020010 ∷ 0x00000001 ∷ 0x00000038 ∷ 0x00000002 ∷ 0x00000002 ∷ []) ++ (170 ∷ 170 ∷ []))
+    ∷ []
+unfolding writing dhcOctets
+buffers-hold = refl
