@@ -1,3 +1,4 @@
 pub mod Plains
 pub mod TurnLoop
 pub mod Fills
+pub mod Built

@@ -162,14 +162,14 @@ start-agrees : (l : ℕ) (row : List Session) → Agrees l (emptied row) atStart
 unfolding emptied find
 start-agrees l row = record { own = ap (find l) (opens-none row) ∙ absent-none; clock = refl }
 
-start-order : (row : List Session) → length row ≡ 64 → inOrder (emptied row) ≡ true
+pub start-order : (row : List Session) → length row ≡ 64 → inOrder (emptied row) ≡ true
 unfolding emptied inOrder any once
 start-order row e = rw (opens-none row, eq-eqb (length row) 64 e)
 
-rises-start : (row : List Session) (n : ℕ) (s : List ℕ) → inOrder (emptied row) ≡ true → Wholes n s → Ours (emptied row) (loggedBy n s) → Rises n 0 s
+pub rises-start : (row : List Session) (n : ℕ) (s : List ℕ) → inOrder (emptied row) ≡ true → Wholes n s → Ours (emptied row) (loggedBy n s) → Rises n 0 s
 rises-start row n s o w ours = unfold emptied in rises-ours n (emptied row) s o w ours
 
-entry-start : (l : ℕ) (log : List ℕ) → entryPoint l log 0 .clock ≡ 0
+pub entry-start : (l : ℕ) (log : List ℕ) → entryPoint l log 0 .clock ≡ 0
 unfolding pointAfter
 entry-start l log = refl
 
@@ -226,7 +226,7 @@ module _ (row : List Session) (log : List ℕ) (n : ℕ) (our : OurLog row log n
       (ap (λ (x : Answer). x .answer) same ∙ all .0, ap (λ (x : Answer). x .report) same ∙ all .1)
 
 -- the first of whole records, and of our run's
-wholes-front : (m n : ℕ) (s : List ℕ) → m ≤ n → Wholes n s → Wholes m s
+pub wholes-front : (m n : ℕ) (s : List ℕ) → m ≤ n → Wholes n s → Wholes m s
 unfolding Wholes
 wholes-front zero n s h w = tt
 wholes-front (suc m) zero s h w = absurd (omega arith)

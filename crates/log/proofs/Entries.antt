@@ -112,12 +112,12 @@ module _ (l : ℕ) where
       split (passes u s) (λ k. rw k (ends-there n m u (behind s) (omega arith) e)) (λ k. rw k)
 
 -- m records, then n more
-rest-joined : (m n : ℕ) (s : List ℕ) → restAfter (m + n) s ≡ restAfter n (restAfter m s)
+pub rest-joined : (m n : ℕ) (s : List ℕ) → restAfter (m + n) s ≡ restAfter n (restAfter m s)
 unfolding restAfter
 rest-joined zero n s = let e : 0 + n ≡ n = omega arith in ap (λ (k : ℕ). restAfter k s) e
 rest-joined (suc m) n s = let e : suc m + n ≡ suc (m + n) = omega arith in ap (λ (k : ℕ). restAfter k s) e ∙ rest-joined m n (behind s)
 
-point-joined : (m n l : ℕ) (s : List ℕ) (p : Point) → pointAfter (m + n) l s p ≡ pointAfter n l (restAfter m s) (pointAfter m l s p)
+pub point-joined : (m n l : ℕ) (s : List ℕ) (p : Point) → pointAfter (m + n) l s p ≡ pointAfter n l (restAfter m s) (pointAfter m l s p)
 unfolding restAfter pointAfter
 point-joined zero n l s p = let e : 0 + n ≡ n = omega arith in ap (λ (k : ℕ). pointAfter k l s p) e
 point-joined (suc m) n l s p =
@@ -125,13 +125,13 @@ point-joined (suc m) n l s p =
     ap (λ (k : ℕ). pointAfter k l s p) e ∙ point-joined m n l (behind s) (followed l s p)
 
 -- the first of records that rise, and those behind them
-rises-front : (m n clock : ℕ) (s : List ℕ) → m ≤ n → Rises n clock s → Rises m clock s
+pub rises-front : (m n clock : ℕ) (s : List ℕ) → m ≤ n → Rises n clock s → Rises m clock s
 unfolding Rises
 rises-front zero n clock s h r = tt
 rises-front (suc m) zero clock s h r = absurd (omega arith)
 rises-front (suc m) (suc n) clock s h r = (r .0, r .1, rises-front m n (clockBy s clock) (behind s) (omega arith) (r .2))
 
-rises-rest : (m n l : ℕ) (s : List ℕ) (p : Point) → m ≤ n → Rises n (p .clock) s → Rises (n - m) (pointAfter m l s p .clock) (restAfter m s)
+pub rises-rest : (m n l : ℕ) (s : List ℕ) (p : Point) → m ≤ n → Rises n (p .clock) s → Rises (n - m) (pointAfter m l s p .clock) (restAfter m s)
 unfolding Rises restAfter pointAfter
 rises-rest zero n l s p h r = let e : n - 0 ≡ n = omega arith in rw e r
 rises-rest (suc m) zero l s p h r = absurd (omega arith)
