@@ -18,7 +18,8 @@ use Rattle.table.specs.Table.{Table, openOf, inOrder, find, receiveAnswer, open
 use Rattle.table.proofs.Order.{order-kept}
 use Rattle.walks.specs.AtPlace.{Afterwards, atPlace}
 use Rattle.index.specs.declared.Filling.{Filling}
-use Rattle.index.specs.Filling.{onward, readsFor, readFor, filledBy, fillOne, fillsOf, fillAll, fillingFrom}
+use Rattle.index.specs.Filling.{onward, readsFor, readFor, filledBy, fillOne, fillsOf, fillAll, fillingFrom, Noted, noteOne, notesOf, noteAll}
+use Rattle.index.proofs.Fills.{notes-go}
 use Rattle.log.specs.declared.Point.{Point}
 use Rattle.log.specs.declared.Ended.{Ended}
 use Rattle.log.specs.Records.{Logged, sizeIn, behind, loggedBy}
@@ -73,6 +74,23 @@ behind-low : (t : Table) (gs : List Logged) → inOrder t ≡ true → t .clock 
 unfolding behindAll
 behind-low t [] o h = h
 behind-low t (g ∷ gs) o h = behind-low (next t (g .call)) gs (order-kept t (g .call) o) (next-low t (g .call) o h)
+
+-- one element put beside those behind it
+one-more : {A : Type 0} (f : ℕ → A) (k count i : ℕ) (xs : List A) (d : A) → k < count → k < length xs
+    → cond (leb (suc k) i && ltb i count) (f i) (getD (set xs k (f k)) i d) ≡ cond (leb k i && ltb i count) (f i) (getD xs i d)
+one-more f k count i xs d less room =
+    split (eqb i k)
+    (λ q.
+    let e = eqb-true i k q in
+    rw (lt-leb (suc k) i (omega arith), le-leb k i (omega arith), lt-ltb i count (omega arith))
+    (ap (λ j. getD (set xs k (f k)) j d) e ∙ getD-set-same xs k (f k) d room ∙ ap f (sym e)))
+    (λ q.
+    let apart = eqb-false i k q in
+    let o : getD (set xs k (f k)) i d ≡ getD xs i d = getD-set-other xs k i (f k) d apart in
+    let same : leb (suc k) i ≡ leb k i =
+    split (ltb k i) (λ g. rw (le-leb (suc k) i (omega (arith, ltb-true k i g)), le-leb k i (omega (arith, ltb-true k i g))))
+    (λ g. rw (lt-leb (suc k) i (omega (arith, ltb-false k i g)), lt-leb k i (omega (arith, eqb-false i k q, ltb-false k i g)))) in
+    (λ j. cond (same j && ltb i count) (f i) (o j)))
 
 read-none : (l u : ℕ) (s : List ℕ) (p : Point) → readTo 0 l u s p ≡ endedAt 0 s p
 unfolding readTo
@@ -138,23 +156,6 @@ module _ (row : List Session) (log : List ℕ) (n : ℕ) (our : OurLog row log n
       let one : suc k - 1 ≡ k = omega arith in
       rw (lt-ltb k (length rs) (omega arith)) ((λ i. record { outcome = e i; row = set rs k (e i .point .session) }) ∙ ap (λ (j : ℕ). record { outcome = Standing (suc k) count; row = set rs k (entryPoint l log j .session) }) one)
 
-  -- entry k beside those behind it
-  one-more : (k count i : ℕ) (rs : List Session) (d : Session) → k < count → k < length rs
-      → cond (leb (suc k) i && ltb i count) (entryPoint l log i .session) (getD (set rs k (entryPoint l log k .session)) i d)
-      ≡ cond (leb k i && ltb i count) (entryPoint l log i .session) (getD rs i d)
-  one-more k count i rs d less room =
-      let v = entryPoint l log k .session in
-      split (eqb i k)
-      (λ q.
-      let e = eqb-true i k q in
-      rw (lt-leb (suc k) i (omega arith), le-leb k i (omega arith), lt-ltb i count (omega arith))
-      (ap (λ (j : ℕ). getD (set rs k v) j d) e ∙ getD-set-same rs k v d room ∙ ap (λ (j : ℕ). entryPoint l log j .session) (sym e)))
-      (λ q.
-      let apart = eqb-false i k q in
-      let o : getD (set rs k v) i d ≡ getD rs i d = getD-set-other rs k i v d apart in
-      let same : leb (suc k) i ≡ leb k i = split (ltb k i) (λ g. rw (le-leb (suc k) i (omega (arith, ltb-true k i g)), le-leb k i (omega (arith, ltb-true k i g)))) (λ g. rw (lt-leb (suc k) i (omega (arith, ltb-false k i g)), lt-leb k i (omega (arith, ltb-false k i g)))) in
-      (λ j. cond (same j && ltb i count) (entryPoint l log i .session) (o j)))
-
   -- all entries from k on: each has its record, and what lies elsewhere is as it was
   pub fills-all : (j k count i : ℕ) (rs : List Session) (d : Session) → k + j ≡ count → 8 ≤ length log → 256 * (count - 1) ≤ n → count ≤ length rs
       → getD (fillsOf j log (record { outcome = Standing k count; row = rs }) .row) i d ≡ cond (leb k i && ltb i count) (entryPoint l log i .session) (getD rs i d)
@@ -166,7 +167,7 @@ module _ (row : List Session) (log : List ℕ) (n : ℕ) (our : OurLog row log n
   fills-all (suc j) k count i rs d e h m room =
       let one = fills-one k count rs h (omega arith) (omega arith) room in
       let kept = length-set rs k (entryPoint l log k .session) in
-      rw (lt-ltb k count (omega arith), one) (fills-all j (suc k) count i (set rs k (entryPoint l log k .session)) d (omega arith) h m (omega (arith, kept)) ∙ one-more k count i rs d (omega arith) (omega arith))
+      rw (lt-ltb k count (omega arith), one) (fills-all j (suc k) count i (set rs k (entryPoint l log k .session)) d (omega arith) h m (omega (arith, kept)) ∙ one-more (λ x. entryPoint l log x .session) k count i rs d (omega arith) (omega arith))
 
   -- before the first entry
   stands-first : (count : ℕ) → 8 ≤ length log → fillingFrom l count ≡ Standing 0 count
@@ -183,3 +184,42 @@ module _ (row : List Session) (log : List ℕ) (n : ℕ) (our : OurLog row log n
       let whole : count - 0 ≡ count = omega arith in
       (λ j. getD (fillsOf (whole j) log (record { outcome = start j; row = rs }) .row) i d)
       ∙ fills-all count 0 count i rs d (omega arith) h (omega arith) room ∙ rw (le-leb 0 i (omega arith))
+
+  -- one entry's clock and place
+  notes-one : (k count : ℕ) (cs ps : List ℕ) → 8 ≤ length log → 256 * k ≤ n → k < count
+      → noteOne (record { filling = Standing k count; clocks = cs; places = ps }) log
+      ≡ record { filling = Standing (suc k) count; clocks = set cs k (entryPoint l log k .clock); places = set ps k (entryPlace log k) }
+  notes-one k count cs ps h m less =
+      let e = stands-next k count h m less in
+      let one : suc k - 1 ≡ k = omega arith in
+      (λ i. record { filling = e i; clocks = set cs k (e i .point .clock); places = set ps k (e i .place) })
+      ∙ (λ i. record { filling = Standing (suc k) count; clocks = set cs k (entryPoint l log (one i) .clock); places = set ps k (entryPlace log (one i)) })
+
+  notes-all : (j k count i : ℕ) (cs ps : List ℕ) → k + j ≡ count → 8 ≤ length log → 256 * (count - 1) ≤ n → count ≤ length cs → count ≤ length ps
+      → (getD (notesOf j log (record { filling = Standing k count; clocks = cs; places = ps }) .clocks) i 0 ≡ cond (leb k i && ltb i count) (entryPoint l log i .clock) (getD cs i 0))
+      × (getD (notesOf j log (record { filling = Standing k count; clocks = cs; places = ps }) .places) i 0 ≡ cond (leb k i && ltb i count) (entryPlace log i) (getD ps i 0))
+  unfolding notesOf
+  notes-all zero k count i cs ps e h m room room₂ =
+      split (leb k i)
+      (λ f. rw (f, le-ltb i count (omega (arith, leb-true k i f))) (refl, refl))
+      (λ f. rw f (refl, refl))
+  notes-all (suc j) k count i cs ps e h m room room₂ =
+      let one = notes-one k count cs ps h (omega arith) (omega arith) in
+      let cs′ = set cs k (entryPoint l log k .clock) in
+      let ps′ = set ps k (entryPlace log k) in
+      let w = notes-all j (suc k) count i cs′ ps′ (omega arith) h m (omega (arith, length-set cs k (entryPoint l log k .clock))) (omega (arith, length-set ps k (entryPlace log k))) in
+      let at : Noted = record { filling = Standing k count; clocks = cs; places = ps } in
+      let fewer : suc j - 1 ≡ j = omega arith in
+      let step = notes-go (suc j) log at (lt-ltb k count (omega arith)) (omega arith) ∙ ap (λ (x : ℕ). notesOf x log (noteOne at log)) fewer ∙ ap (notesOf j log) one in
+      (ap (λ (x : Noted). getD (x .clocks) i 0) step ∙ w .0 ∙ one-more (λ x. entryPoint l log x .clock) k count i cs 0 (omega arith) (omega arith), ap (λ (x : Noted). getD (x .places) i 0) step ∙ w .1 ∙ one-more (λ x. entryPlace log x) k count i ps 0 (omega arith) (omega arith))
+
+  -- the clocks and places that are built: those of the entries
+  pub numbers-built : (count i : ℕ) (cs ps : List ℕ) → count ≡ n / 256 + 1 → 8 ≤ length log → count ≤ length cs → count ≤ length ps
+      → (getD (noteAll cs ps (fillingFrom l count) log .clocks) i 0 ≡ cond (ltb i count) (entryPoint l log i .clock) (getD cs i 0))
+      × (getD (noteAll cs ps (fillingFrom l count) log .places) i 0 ≡ cond (ltb i count) (entryPlace log i) (getD ps i 0))
+  numbers-built count i cs ps e h room room₂ =
+      let start = stands-first count h in
+      let whole : count - 0 ≡ count = omega arith in
+      let w = notes-all count 0 count i cs ps (omega arith) h (omega arith) room room₂ in
+      let all : leb 0 i ≡ true = le-leb 0 i (omega arith) in
+      ((λ j. getD (notesOf (whole j) log (record { filling = start j; clocks = cs; places = ps }) .clocks) i 0) ∙ w .0 ∙ rw all, (λ j. getD (notesOf (whole j) log (record { filling = start j; clocks = cs; places = ps }) .places) i 0) ∙ w .1 ∙ rw all)
