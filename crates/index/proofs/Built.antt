@@ -20,16 +20,20 @@ use Rattle.walks.specs.AtPlace.{Afterwards, atPlace}
 use Rattle.index.specs.declared.Filling.{Filling}
 use Rattle.index.specs.Filling.{onward, readsFor, readFor, filledBy, fillOne, fillsOf, fillAll, fillingFrom, Noted, noteOne, notesOf, noteAll}
 use Rattle.index.proofs.Fills.{notes-go}
+use Rattle.index.specs.Asking.{answerAt}
+use Rattle.halving.specs.Search.{found}
+use Rattle.halving.proofs.Halves.{found-inside}
+use Rattle.log.specs.declared.Answer.{Answer}
 use Rattle.log.specs.declared.Point.{Point}
 use Rattle.log.specs.declared.Ended.{Ended}
 use Rattle.log.specs.Records.{Logged, sizeIn, behind, loggedBy}
-use Rattle.log.specs.Reading.{readTo, endedAt, never, atStart}
+use Rattle.log.specs.Reading.{readTo, endedAt, never, atStart, answerFrom}
 use Rattle.log.specs.Runs.{behindAll}
 use Rattle.log.specs.Entries.{restAfter, pointAfter, Rises, entryPoint, entryRest, entryPlace}
 use Rattle.log.proofs.Turns.{whole-size}
-use Rattle.log.proofs.Runs.{Agrees}
+use Rattle.log.proofs.Runs.{Agrees, reported}
 use Rattle.log.proofs.Entries.{skips, rest-joined, point-joined, rises-front, rises-rest}
-use Rattle.log.proofs.Asking.{Wholes, OurLog, wholes-front, rises-start, start-order, index-holds}
+use Rattle.log.proofs.Asking.{Wholes, OurLog, wholes-front, rises-start, start-order, index-holds, frontOf, ask-all}
 
 -- what is left behind whole records is the end of the octets
 shorter : (m : ℕ) (s : List ℕ) → length (restAfter m s) ≤ length s
@@ -223,3 +227,25 @@ module _ (row : List Session) (log : List ℕ) (n : ℕ) (our : OurLog row log n
       let w = notes-all count 0 count i cs ps (omega arith) h (omega arith) room room₂ in
       let all : leb 0 i ≡ true = le-leb 0 i (omega arith) in
       ((λ j. getD (notesOf (whole j) log (record { filling = start j; clocks = cs; places = ps }) .clocks) i 0) ∙ w .0 ∙ rw all, (λ j. getD (notesOf (whole j) log (record { filling = start j; clocks = cs; places = ps }) .places) i 0) ∙ w .1 ∙ rw all)
+
+  -- the answer from the entry that the search finds
+  abbrev pub askedAt : List ℕ → List ℕ → List Session → Session → ℕ → ℕ → Answer
+  askedAt clocks places records d u count =
+      let k = found clocks u 0 count .place in
+      answerAt log (getD places k 0) (getD records k d) (getD clocks k 0) l u (found clocks u 0 count .looked)
+
+  -- asked from an index whose entries are these, the answer is the report of our run
+  pub ask-built : (u : ℕ) → u ≤ latest → (clocks places : List ℕ) (records : List Session) (d : Session) (count : ℕ) → count ≡ n / 256 + 1 → 8 ≤ length log
+      → ((i : ℕ) → i < count → getD clocks i 0 ≡ entryPoint l log i .clock) → ((i : ℕ) → i < count → getD places i 0 ≡ entryPlace log i)
+      → ((i : ℕ) → i < count → getD records i d ≡ entryPoint l log i .session)
+      → (askedAt clocks places records d u count .answer ≡ reported (frontOf row log u) u l .number) × (askedAt clocks places records d u count .report ≡ reported (frontOf row log u) u l .report)
+  unfolding answerAt
+  ask-built u top clocks places records d count e h cs ps rs =
+      let k = found clocks u 0 count .place in
+      let looked = found clocks u 0 count .looked in
+      let near : k < count = omega (arith, found-inside clocks u 0 count (omega arith) .1) in
+      let same : askedAt clocks places records d u count ≡ answerFrom (readTo 256 l u (entryRest log k) (entryPoint l log k)) u looked =
+      (λ i. answerFrom (readTo 256 l u (drop (ps k near i) log) (record { session = rs k near i; clock = cs k near i })) u looked)
+      ∙ ap (λ (s : List ℕ). answerFrom (readTo 256 l u s (entryPoint l log k)) u looked) (place-rest k h (omega arith)) in
+      let all = ask-all row log n our l u top clocks count e cs in
+      (ap (λ (x : Answer). x .answer) same ∙ all .0, ap (λ (x : Answer). x .report) same ∙ all .1)
