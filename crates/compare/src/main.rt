@@ -4,7 +4,6 @@
 mod window;
 
 use comparison::Marks;
-use libc::STDOUT_FILENO;
 use window::Window;
 use window::filled;
 use window::left;
@@ -27,27 +26,28 @@ struct Pair {
     go: bool,
 }
 
-// ---- the lines
-fn say(text: &[u8], n: usize) {
-    io::write_all(STDOUT_FILENO, octets::part(text, 0, n));
+struct Judged {
+    good: bool,
+    failed: bool,
 }
 
+// ---- the lines
 fn say_pair(number: u64, m: Marks) {
     let mut lines = [0u8; 512];
     let n = comparison::put_pair(&mut lines, 0, number, m);
-    say(&lines, n);
+    syscall::write_text(b"compare", &lines, n, number);
 }
 
 fn say_refused(answer: u64) {
     let mut line = [0u8; 64];
     let n = comparison::put_refused(&mut line, 0, answer);
-    say(&line, n);
+    syscall::write_text(b"compare", &line, n, 0);
 }
 
 fn say_rest(place: u64) {
     let mut line = [0u8; 64];
     let n = comparison::put_rest(&mut line, 0, place);
-    say(&line, n);
+    syscall::write_text(b"compare", &line, n, 0);
 }
 
 // ---- each file by itself
@@ -55,7 +55,7 @@ fn say_rest(place: u64) {
 fn pass_record(w: Window, buf: &mut [u8]) -> Window {
     let f = filled(w, &mut *buf);
     let step = comparison::step_of(seen(f, &*buf));
-    passed(f, step)
+    passed(f, step, 1)
 }
 
 // Behind the last whole record. The number of records is bounded by one that no run uses up.
@@ -72,29 +72,39 @@ fn pass_records(from: Window, buf: &mut [u8]) -> Window {
     w
 }
 
-// Whether a file is a capture from its header to its end.
-fn is_good(w: Window, buf: &mut [u8]) -> bool {
+// What a file is from its header to its end: whether it is a capture, and whether a read failed.
+fn look_through(w: Window, buf: &mut [u8]) -> Judged {
     let f = filled(w, &mut *buf);
     if !capture::header_fits(seen(f, &*buf)) {
-        return false;
+        return Judged {
+            good: false,
+            failed: f.failed,
+        };
     }
-    let end = pass_records(passed(f, 8), buf);
-    left(end) == 0
+    let end = pass_records(passed(f, 8, 0), buf);
+    Judged {
+        good: left(end) == 0,
+        failed: end.failed,
+    }
 }
 
-// Whether the file that argument i names is good. That it cannot be read, or that it is bad, is said.
+// Whether the file that argument i names is good. That it cannot be opened or that it is bad is said
+// here; that a read failed was said behind the read.
 fn is_compared(i: usize, unread: &[u8], answer: u64, buf: &mut [u8]) -> bool {
     let w = opened(i);
     if w.file < 0 {
         stored::say(unread);
         return false;
     }
-    let good = is_good(w, buf);
+    let j = look_through(w, buf);
     libc::close(w.file);
-    if !good {
+    if j.failed {
+        return false;
+    }
+    if !j.good {
         say_refused(answer);
     }
-    good
+    j.good
 }
 
 // ---- both, pair by pair
@@ -136,6 +146,22 @@ fn fill_both(p: Pair, first: &mut [u8], second: &mut [u8]) -> Pair {
     }
 }
 
+fn is_failed(p: Pair) -> bool {
+    p.first.failed || p.second.failed
+}
+
+fn stopped(p: Pair) -> Pair {
+    let first = p.first;
+    let second = p.second;
+    let told = p.told;
+    Pair {
+        first,
+        second,
+        told,
+        go: false,
+    }
+}
+
 // One pair, of what is at hand.
 fn tell_next(p: Pair, first: &[u8], second: &[u8]) -> Pair {
     let s = seen(p.first, first);
@@ -145,8 +171,8 @@ fn tell_next(p: Pair, first: &[u8], second: &[u8]) -> Pair {
     let told = told_by(p.told, m, p.first.place);
     let n = comparison::step_of(s);
     let k = comparison::step_of(t);
-    let a = passed(p.first, n);
-    let b = passed(p.second, k);
+    let a = passed(p.first, n, 1);
+    let b = passed(p.second, k, 1);
     Pair {
         first: a,
         second: b,
@@ -155,13 +181,17 @@ fn tell_next(p: Pair, first: &[u8], second: &[u8]) -> Pair {
     }
 }
 
+// One pair more, unless a read failed: behind that nothing is told.
 fn tell_pair(p: Pair, first: &mut [u8], second: &mut [u8]) -> Pair {
     let q = fill_both(p, &mut *first, &mut *second);
+    if is_failed(q) {
+        return stopped(q);
+    }
     tell_next(q, &*first, &*second)
 }
 
-// Pair by pair, and then the place where the rest begins.
-fn tell(start: Pair, first: &mut [u8], second: &mut [u8]) -> u64 {
+// Pair by pair.
+fn tell(start: Pair, first: &mut [u8], second: &mut [u8]) -> Pair {
     let mut p = start;
     let mut go = true;
     let mut turns = u64::MAX;
@@ -170,16 +200,17 @@ fn tell(start: Pair, first: &mut [u8], second: &mut [u8]) -> u64 {
         go = p.go;
         turns -= 1;
     }
-    p.told.rest
+    p
 }
 
 // A file behind its header.
 fn behind_header(i: usize, buf: &mut [u8]) -> Window {
     let w = filled(opened(i), buf);
-    passed(w, 8)
+    passed(w, 8, 0)
 }
 
-fn compare_files(first: &mut [u8], second: &mut [u8]) -> u64 {
+// All pairs, and then the place where the rest begins.
+fn compare_files(first: &mut [u8], second: &mut [u8]) {
     let a = behind_header(1, &mut *first);
     let b = behind_header(2, &mut *second);
     let told = Told {
@@ -193,7 +224,10 @@ fn compare_files(first: &mut [u8], second: &mut [u8]) -> u64 {
         told,
         go: true,
     };
-    tell(p, first, second)
+    let end = tell(p, first, second);
+    if !is_failed(end) {
+        say_rest(end.told.rest);
+    }
 }
 
 fn run() {
@@ -205,7 +239,7 @@ fn run() {
     if !is_compared(2, b"SECOND cannot be read\n", 23, &mut second) {
         return;
     }
-    say_rest(compare_files(&mut first, &mut second));
+    compare_files(&mut first, &mut second);
 }
 
 fn main() {

@@ -1,13 +1,16 @@
 // A file in constant memory: the octets of it that are at hand, in a lent buffer.
 
 // From one place of the buffer to another they are not passed yet; whether the file has no more
-// behind them, and which octet of the file is the first of them.
+// behind them, or a read of it failed; which octet of the file is the first of them, and how many
+// records were passed.
 pub struct Window {
     pub file: i32,
     pub from: usize,
     pub to: usize,
     pub ended: bool,
+    pub failed: bool,
     pub place: u64,
+    pub records: u64,
 }
 
 // A sum that stays at the greatest number.
@@ -42,7 +45,9 @@ pub fn opened(i: usize) -> Window {
         from: 0,
         to: 0,
         ended: false,
+        failed: false,
         place: 0,
+        records: 0,
     }
 }
 
@@ -51,14 +56,16 @@ pub fn seen(w: Window, buf: &[u8]) -> &[u8] {
     octets::part(buf, w.from, left(w))
 }
 
-// So many octets further.
-pub fn passed(w: Window, n: usize) -> Window {
+// So many octets further, and so many records.
+pub fn passed(w: Window, n: usize, records: usize) -> Window {
     Window {
         file: w.file,
         from: plus(w.from, n),
         to: w.to,
         ended: w.ended,
+        failed: w.failed,
         place: further(w.place, n),
+        records: further(w.records, records),
     }
 }
 
@@ -72,29 +79,57 @@ fn shift(buf: &mut [u8], from: usize, n: usize) {
     }
 }
 
-// The buffer filled again from its place n on.
-fn read_on(w: Window, n: usize, buf: &mut [u8]) -> Window {
-    let at = octets::least(n, buf.len());
-    let got = io::read_full(w.file, &mut buf[at..]);
-    let to = plus(at, got);
+fn reached(w: Window, from: usize, to: usize, ended: bool, failed: bool) -> Window {
     Window {
         file: w.file,
-        from: 0,
+        from: from,
         to: to,
-        ended: to < buf.len(),
+        ended: ended,
+        failed: failed,
         place: w.place,
+        records: w.records,
     }
 }
 
-// More is read where a whole record, 2,064 octets at most, might not be at hand.
+// What one read answered. None is the file's end; one that failed is told of, and nothing is read
+// behind it.
+fn after_read(w: Window, got: isize, buf: &[u8]) -> Window {
+    if got < 0 {
+        let again = syscall::is_again(b"compare", false, os::errno(), w.records);
+        return reached(w, w.from, w.to, !again, !again);
+    }
+    let n = io::count(got, buf);
+    if n == 0 {
+        return reached(w, w.from, w.to, true, false);
+    }
+    reached(w, w.from, pump::advance(w.to, n, buf.len()), false, false)
+}
+
+// One read, behind the octets at hand.
+fn read_on(w: Window, buf: &mut [u8]) -> Window {
+    let at = pump::within(w.to, buf);
+    let got = libc::read(w.file, &mut buf[at..]);
+    after_read(w, got, &*buf)
+}
+
+// A whole record, 2,064 octets at most, might not be at hand, and there may be more.
+fn wants(w: Window) -> bool {
+    !w.ended && left(w) < 2_064
+}
+
+// More is read, until a whole record is at hand or the file ends. The number of reads is bounded by one
+// that no run uses up.
 pub fn filled(w: Window, buf: &mut [u8]) -> Window {
-    if w.ended {
+    if !wants(w) {
         return w;
     }
     let n = left(w);
-    if 2_064 <= n {
-        return w;
-    }
     shift(&mut *buf, w.from, n);
-    read_on(w, n, buf)
+    let mut x = reached(w, 0, n, false, false);
+    let mut turns = u64::MAX;
+    while turns > 0 && wants(x) {
+        x = read_on(x, &mut *buf);
+        turns -= 1;
+    }
+    x
 }
