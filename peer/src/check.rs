@@ -44,6 +44,23 @@ pub struct Outcome {
     pub ended: bool,
 }
 
+impl Outcome {
+    /// The program wrote this text and ended by itself.
+    pub fn is(&self, expected: &str) -> bool {
+        self.text == expected.as_bytes() && self.ended
+    }
+
+    /// What it wrote, and where that is so that a signal ended it.
+    pub fn told(&self) -> String {
+        let text = String::from_utf8_lossy(&self.text);
+        let signal = match self.ended {
+            true => "",
+            false => "ended by a signal\n",
+        };
+        format!("{text}{signal}")
+    }
+}
+
 /// Runs a program with these words behind its name on a capture.
 pub fn run(program: &Path, words: &[String], capture: &[u8], piece: usize) -> io::Result<Outcome> {
     let mut child = Command::new(program)

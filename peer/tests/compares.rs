@@ -1,38 +1,19 @@
 //! The pairs of captures that stand in the repository, compared, and the texts
 //! they are made of; then the rules of `compare` over made pairs.
 
+mod folder;
+
+use folder::Folder;
 use peer::assemble::assemble;
 use peer::compare::differences::{Entry, What};
 use peer::compare::{compare, parsed, Compared};
 use peer::make;
-use std::collections::BTreeSet;
-use std::fs;
-use std::path::PathBuf;
 
-fn folder() -> PathBuf {
-    PathBuf::from(env!("CARGO_MANIFEST_DIR")).join("tests/compares")
-}
-
-/// The names of the files that end in `.ending`.
-fn names(ending: &str) -> BTreeSet<String> {
-    let files = fs::read_dir(folder()).unwrap();
-    let paths = files.map(|file| file.unwrap().path());
-    let of_that_kind = paths.filter(|path| path.extension().is_some_and(|e| e == ending));
-    let stem = |path: PathBuf| path.file_stem().unwrap().to_str().unwrap().to_string();
-    of_that_kind.map(stem).collect()
-}
-
-fn octets(name: &str, ending: &str) -> Vec<u8> {
-    fs::read(folder().join(format!("{name}.{ending}"))).unwrap()
-}
-
-fn source(name: &str, ending: &str) -> String {
-    String::from_utf8(octets(name, ending)).unwrap()
-}
+const WORKED: Folder = Folder("tests/compares");
 
 /// What stands behind the line `first`, and behind the line `second`.
 fn texts(name: &str) -> (String, String) {
-    let text = source(name, "txt");
+    let text = WORKED.source(name, "txt");
     let (_, behind) = text.split_once("\nfirst\n").unwrap();
     // An empty first part has nothing before the line.
     let behind = format!("\n{behind}");
@@ -41,12 +22,15 @@ fn texts(name: &str) -> (String, String) {
 }
 
 fn compared(name: &str) -> Compared {
-    compare(&octets(name, "first"), &octets(name, "second"))
+    compare(
+        &WORKED.octets(name, "first"),
+        &WORKED.octets(name, "second"),
+    )
 }
 
 /// The worked lines: what room there is, and the numbers; the rest's place.
 fn worked(name: &str) -> (Vec<(usize, String)>, String) {
-    let text = source(name, "compare");
+    let text = WORKED.source(name, "compare");
     let mut rest = String::new();
     let mut lists = Vec::new();
     for line in text.lines() {
@@ -60,20 +44,24 @@ fn worked(name: &str) -> (Vec<(usize, String)>, String) {
 
 #[test]
 fn every_text_has_its_captures_and_its_answers() {
-    assert!(names("txt").len() > 25);
+    assert!(WORKED.names("txt").len() > 25);
     for ending in ["first", "second", "compare", "lines"] {
-        assert_eq!(names("txt"), names(ending), "{ending}");
+        assert_eq!(WORKED.names("txt"), WORKED.names(ending), "{ending}");
     }
 }
 
 #[test]
 fn the_captures_are_what_their_texts_say() {
-    for name in names("txt") {
+    for name in WORKED.names("txt") {
         let (first, second) = texts(&name);
-        assert_eq!(assemble(&first).unwrap(), octets(&name, "first"), "{name}");
+        assert_eq!(
+            assemble(&first).unwrap(),
+            WORKED.octets(&name, "first"),
+            "{name}"
+        );
         assert_eq!(
             assemble(&second).unwrap(),
-            octets(&name, "second"),
+            WORKED.octets(&name, "second"),
             "{name}"
         );
     }
@@ -81,7 +69,7 @@ fn the_captures_are_what_their_texts_say() {
 
 #[test]
 fn the_numbers_are_those_that_were_worked_out_by_hand() {
-    for name in names("compare") {
+    for name in WORKED.names("compare") {
         let (lists, rest) = worked(&name);
         for (room, numbers) in lists {
             let printed = compared(&name).within(room).numbers();
@@ -96,15 +84,19 @@ fn the_numbers_are_those_that_were_worked_out_by_hand() {
 
 #[test]
 fn so_are_the_lines() {
-    for name in names("lines") {
-        assert_eq!(compared(&name).lines(), source(&name, "lines"), "{name}");
+    for name in WORKED.names("lines") {
+        assert_eq!(
+            compared(&name).lines(),
+            WORKED.source(&name, "lines"),
+            "{name}"
+        );
     }
 }
 
 /// Room for all entries is enough, room for one less is not.
 #[test]
 fn every_pair_that_differs_is_worked_with_just_enough_room_and_one_less() {
-    for name in names("compare") {
+    for name in WORKED.names("compare") {
         let Ok(entries) = compared(&name).entries else {
             continue;
         };
@@ -118,8 +110,11 @@ fn every_pair_that_differs_is_worked_with_just_enough_room_and_one_less() {
 
 /// The stored pairs, and made ones.
 fn pairs() -> Vec<(String, [Vec<u8>; 2])> {
-    let stored = names("txt").into_iter().map(|name| {
-        let pair = [octets(&name, "first"), octets(&name, "second")];
+    let stored = WORKED.names("txt").into_iter().map(|name| {
+        let pair = [
+            WORKED.octets(&name, "first"),
+            WORKED.octets(&name, "second"),
+        ];
         (name, pair)
     });
     let made = (1..=400).map(|seed| (format!("seed {seed}"), make::compared(seed)));

@@ -2,8 +2,10 @@
 //! what holds of every log.
 
 mod common;
+mod folder;
 
 use common::Capture;
+use folder::Folder;
 use peer::assemble::{answers, assemble};
 use peer::log::index::{build, MOST_ENTRIES};
 use peer::log::records::{self, MOST_RECORDS};
@@ -11,27 +13,19 @@ use peer::log::turn::{log_of, NoLog};
 use peer::log::{answer_text, ask, check, play, Refusal};
 use peer::watch;
 use std::collections::BTreeSet;
-use std::fs;
-use std::path::PathBuf;
 
-fn folder() -> PathBuf {
-    PathBuf::from(env!("CARGO_MANIFEST_DIR")).join("tests/logs")
-}
+const WORKED: Folder = Folder("tests/logs");
 
-/// The names of the texts that make logs.
+/// The names of the texts that make logs, and of their files.
 fn names(ending: &str) -> BTreeSet<String> {
-    let files = fs::read_dir(folder()).unwrap();
-    let paths = files.map(|file| file.unwrap().path());
-    let of_that_kind = paths.filter(|path| path.extension().is_some_and(|e| e == ending));
-    let stem = |path: PathBuf| path.file_stem().unwrap().to_str().unwrap().to_string();
-    let names: BTreeSet<String> = of_that_kind.map(stem).collect();
     let lists = ["build", "damaged"].map(String::from);
+    let names = WORKED.names(ending);
     names.difference(&BTreeSet::from(lists)).cloned().collect()
 }
 
 /// A text, with the line behind each `repeat N` as often as that says.
 fn text(name: &str) -> String {
-    let source = fs::read_to_string(folder().join(format!("{name}.txt"))).unwrap();
+    let source = WORKED.source(name, "txt");
     let mut text = String::new();
     let mut times = 1;
     for line in source.lines() {
@@ -58,7 +52,7 @@ fn every_text_has_its_log_and_its_questions() {
 fn the_logs_are_what_their_texts_say() {
     for name in names("txt") {
         let capture = assemble(&text(&name)).unwrap();
-        let stored = fs::read(folder().join(format!("{name}.log"))).unwrap();
+        let stored = WORKED.octets(&name, "log");
         assert_eq!(log_of(&capture), Ok(stored), "{name}");
     }
 }
@@ -74,7 +68,7 @@ fn the_records_are_answered_as_was_worked_out_by_hand() {
 
 #[test]
 fn what_is_asked_is_answered_as_was_worked_out_by_hand() {
-    let played = play::folder(&folder()).unwrap();
+    let played = play::folder(&WORKED.path()).unwrap();
     assert_eq!(played.wrong, Vec::<String>::new());
     let counts: Vec<u64> = played.counts.into_values().collect();
     assert_eq!(counts.len(), 5);

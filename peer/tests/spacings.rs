@@ -1,71 +1,53 @@
 //! The captures with spacings that stand in the repository, and the texts they
 //! are made of.
 
+mod folder;
+
+use folder::Folder;
 use peer::assemble::{answers, assemble};
 use peer::capture::{record_octets, HEADER};
 use peer::{spacing, watch};
 use std::collections::BTreeSet;
-use std::fs;
-use std::path::PathBuf;
 
-fn folder() -> PathBuf {
-    PathBuf::from(env!("CARGO_MANIFEST_DIR")).join("../crates/spacings/data")
-}
-
-/// The names of the files that end in `.ending`.
-fn names(ending: &str) -> BTreeSet<String> {
-    let files = fs::read_dir(folder()).unwrap();
-    let paths = files.map(|file| file.unwrap().path());
-    let of_that_kind = paths.filter(|path| path.extension().is_some_and(|e| e == ending));
-    let stem = |path: PathBuf| path.file_stem().unwrap().to_str().unwrap().to_string();
-    of_that_kind.map(stem).collect()
-}
-
-fn octets(name: &str, ending: &str) -> Vec<u8> {
-    fs::read(folder().join(format!("{name}.{ending}"))).unwrap()
-}
-
-fn source(name: &str, ending: &str) -> String {
-    String::from_utf8(octets(name, ending)).unwrap()
-}
+const WORKED: Folder = Folder("../crates/spacings/data");
 
 /// The lines of a file: what is asked, and the line that answers it.
 fn asked(name: &str, ending: &str) -> Vec<(String, String)> {
-    let lines = source(name, ending);
+    let lines = WORKED.source(name, ending);
     let split = |line: &str| line.split_once(" => ").map(|(a, b)| (a.into(), b.into()));
     lines.lines().map(|line| split(line).unwrap()).collect()
 }
 
 #[test]
 fn every_text_has_its_capture_and_its_spacings() {
-    assert!(names("txt").len() > 20);
+    assert!(WORKED.names("txt").len() > 20);
     for ending in ["capture", "spacings"] {
-        assert_eq!(names("txt"), names(ending), "{ending}");
+        assert_eq!(WORKED.names("txt"), WORKED.names(ending), "{ending}");
     }
-    assert!(!names("fronts").is_empty());
-    assert!(names("txt").is_superset(&names("fronts")));
+    assert!(!WORKED.names("fronts").is_empty());
+    assert!(WORKED.names("txt").is_superset(&WORKED.names("fronts")));
 }
 
 #[test]
 fn the_captures_are_what_their_texts_say() {
-    for name in names("txt") {
-        let capture = assemble(&source(&name, "txt")).unwrap();
-        assert_eq!(capture, octets(&name, "capture"), "{name}");
+    for name in WORKED.names("txt") {
+        let capture = assemble(&WORKED.source(&name, "txt")).unwrap();
+        assert_eq!(capture, WORKED.octets(&name, "capture"), "{name}");
     }
 }
 
 #[test]
 fn the_records_are_answered_as_was_worked_out_by_hand() {
-    for name in names("txt") {
-        let printed = String::from_utf8(watch::text(&octets(&name, "capture"))).unwrap();
-        assert_eq!(answers(&source(&name, "txt")), printed, "{name}");
+    for name in WORKED.names("txt") {
+        let printed = String::from_utf8(watch::text(&WORKED.octets(&name, "capture"))).unwrap();
+        assert_eq!(answers(&WORKED.source(&name, "txt")), printed, "{name}");
     }
 }
 
 #[test]
 fn the_spacings_are_those_that_were_worked_out_by_hand() {
-    for name in names("spacings") {
-        let capture = octets(&name, "capture");
+    for name in WORKED.names("spacings") {
+        let capture = WORKED.octets(&name, "capture");
         for (label, line) in asked(&name, "spacings") {
             let printed = spacing::answer_to(&[&label], &capture);
             assert_eq!(printed, format!("{line}\n"), "{name}, {label}");
@@ -84,8 +66,8 @@ fn front(capture: &[u8], records: usize) -> Vec<u8> {
 
 #[test]
 fn so_are_those_of_the_first_records() {
-    for name in names("fronts") {
-        let capture = octets(&name, "capture");
+    for name in WORKED.names("fronts") {
+        let capture = WORKED.octets(&name, "capture");
         let lines = asked(&name, "fronts");
         let mut fronts = BTreeSet::new();
         for (what, line) in lines {
@@ -104,9 +86,13 @@ fn so_are_those_of_the_first_records() {
 
 #[test]
 fn no_two_captures_and_no_two_labels_of_one_are_alike() {
-    let captures: BTreeSet<Vec<u8>> = names("txt").iter().map(|n| octets(n, "capture")).collect();
-    assert_eq!(captures.len(), names("txt").len());
-    for name in names("spacings") {
+    let captures: BTreeSet<Vec<u8>> = WORKED
+        .names("txt")
+        .iter()
+        .map(|n| WORKED.octets(n, "capture"))
+        .collect();
+    assert_eq!(captures.len(), WORKED.names("txt").len());
+    for name in WORKED.names("spacings") {
         let lines = asked(&name, "spacings");
         let apart: BTreeSet<&String> = lines.iter().map(|(label, _)| label).collect();
         assert_eq!(apart.len(), lines.len(), "{name}");

@@ -16,14 +16,10 @@ pub fn check(count: u64, program: &Path) -> io::Result<Result<u64, String>> {
         let [first, second] = make::compared(seed);
         let expected = super::compare(&first, &second).lines();
         let outcome = run(program, &files.write(&first, &second)?, &[], 1)?;
-        if outcome.text != expected.as_bytes() || !outcome.ended {
-            let theirs = String::from_utf8_lossy(&outcome.text);
-            let signal = match outcome.ended {
-                true => "",
-                false => "ended by a signal\n",
-            };
+        if !outcome.is(&expected) {
+            let theirs = outcome.told();
             return Ok(Err(format!(
-                "seed {seed}: compare FIRST SECOND\nexpected:\n{expected}program:\n{theirs}{signal}"
+                "seed {seed}: compare FIRST SECOND\nexpected:\n{expected}program:\n{theirs}"
             )));
         }
         lines += expected.lines().count() as u64;

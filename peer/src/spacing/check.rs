@@ -23,15 +23,11 @@ pub fn check(count: u64, program: &Path) -> io::Result<Result<u64, String>> {
         for label in labels(&history) {
             let expected = super::text(&history, label);
             let outcome = run(program, &[label.to_string()], &capture, piece)?;
-            if outcome.text != expected.as_bytes() || !outcome.ended {
-                let theirs = String::from_utf8_lossy(&outcome.text);
-                let signal = match outcome.ended {
-                    true => "",
-                    false => "ended by a signal\n",
-                };
+            if !outcome.is(&expected) {
+                let theirs = outcome.told();
                 return Ok(Err(format!(
                     "seed {seed}, fed {piece} at a time: spacing {label}\n\
-                     expected: {expected}program:  {theirs}{signal}"
+                     expected: {expected}program:  {theirs}"
                 )));
             }
             asked += 1;

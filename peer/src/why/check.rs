@@ -42,17 +42,12 @@ pub fn check(count: u64, program: &Path) -> io::Result<Result<u64, String>> {
             let expected = super::text(&history, &question);
             let words = question.words();
             let outcome = run(program, &words, &capture, piece)?;
-            if outcome.text != expected.as_bytes() || !outcome.ended {
-                let theirs = String::from_utf8_lossy(&outcome.text);
+            if !outcome.is(&expected) {
+                let theirs = outcome.told();
                 let words = words.join(" ");
                 return Ok(Err(format!(
                     "seed {seed}, fed {piece} at a time: why {words}\n\
-                     expected:\n{expected}program:\n{theirs}{}",
-                    if outcome.ended {
-                        ""
-                    } else {
-                        "ended by a signal\n"
-                    }
+                     expected:\n{expected}program:\n{theirs}"
                 )));
             }
             asked += 1;
