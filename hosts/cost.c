@@ -22,6 +22,7 @@ static int worst;
 static uint64_t now;
 static uint32_t last; /* the label of the last place, which every scan comes to last */
 static uint8_t cc[KORVEZUL_CC_OCTETS], cv[KORVEZUL_CV_OCTETS], ais[9 + 254], buffer[KORVEZUL_CV_OCTETS];
+static uint8_t configuration[40];
 static size_t cv_octets; /* of the CV that is received */
 
 static void accepted(uint32_t answer) {
@@ -85,6 +86,7 @@ static void messages(void) {
     accepted(korvezul_write_cc_message(cc, sizeof cc, p));
     accepted(korvezul_write_cv_message(cv, sizeof cv, p, expected));
     cv_octets = (size_t)korvezul_read_cv(cv, sizeof cv).place;
+    accepted(korvezul_write_configuration(configuration, sizeof configuration, 17, 1000000));
     accepted(korvezul_write_fault_message(ais, sizeof ais, f));
     ais[8] = 254;
     for (int i = 9; i < 9 + 254; i += 2)
@@ -123,6 +125,12 @@ static uint32_t cv_message(void) {
 }
 static uint32_t read_mep_id(void) { return korvezul_read_mep_id(cv + 28, cv_octets - 28).answer; }
 static uint32_t fault_message(void) { return korvezul_write_fault_message(buffer, sizeof buffer, fault); }
+static uint32_t write_configuration(void) {
+    return korvezul_write_configuration(buffer, sizeof buffer, 17, 1000000);
+}
+static uint32_t read_configuration(void) { /* as it is written: all four entries that are known */
+    return korvezul_read_configuration(configuration, sizeof configuration, 3).answer;
+}
 static uint32_t log_header(void) { return korvezul_log_header(buffer, sizeof buffer); }
 static uint32_t log_open(void) { /* of LSPs: a record holds no pseudowire */
     struct korvezul_mep_id lsp = {{0, 0, 0, 0}, 7, 10, 1, KORVEZUL_LSP, 0, 0};
@@ -162,6 +170,8 @@ static const struct {
              {"write-cc-message", cc_message},
              {"write-cv-message", cv_message},
              {"write-fault-message", fault_message},
+             {"read-configuration", read_configuration},
+             {"write-configuration", write_configuration},
              {"log-header", log_header},
              {"log-open", log_open},
              {"log-tick", log_tick},
