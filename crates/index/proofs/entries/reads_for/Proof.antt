@@ -1,8 +1,0 @@
--- `index::reads_for` meets its contract.
--- Assumes nothing.
-use Rattle.octets.proofs.Chain.{tests}
-use Rattle.index.proofs.entries.reads_for.Statement.{statement}
-use Rattle.index.proofs.entries.reads_for.Tie as tie
-
-pub reads-for-spec : {M : Type 1} → statement M
-reads-for-spec = tie.close (tie.spec (λ c. search tests) (λ c. search tests))
