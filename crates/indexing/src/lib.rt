@@ -2,6 +2,7 @@
 mod asking;
 mod begin;
 mod entries;
+mod looking;
 mod numbers;
 
 pub use asking::answer_at;
@@ -9,6 +10,8 @@ pub use asking::ask_refusal;
 pub use begin::begin_fill;
 pub use entries::fill;
 pub use entries::fill_one;
+pub use looking::ask;
+use log::Answer;
 use log::Point;
 pub use numbers::fill_numbers;
 
@@ -33,4 +36,15 @@ pub struct IndexHead {
     pub length: u64,
     pub label: u32,
     pub count: u32,
+}
+
+// A search among the entries: the first candidate and how many there are, the entries looked at, what
+// was asked, and the answer where no candidate is left.
+pub struct Search {
+    pub first: usize,
+    pub n: usize,
+    pub looked: usize,
+    pub label: u32,
+    pub reading: u64,
+    pub answer: Answer,
 }
