@@ -1,6 +1,8 @@
 pub mod Plains
 pub mod TurnLoop
 pub mod SearchLoop
+pub mod BuildOnce
 pub mod Fills
 pub mod Looks
-pub mod Built
+pub mod Builds
+pub mod Filled

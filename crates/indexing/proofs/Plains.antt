@@ -16,6 +16,10 @@ use Rattle.indexing.proofs.IndexHead as IndexHead′
 use Rattle.indexing.proofs.IndexHead.Laws as IndexHead″
 use Rattle.indexing.proofs.Search as Search′
 use Rattle.indexing.proofs.Search.Laws as Search″
+use Rattle.indexing.proofs.Begun as Begun′
+use Rattle.indexing.proofs.Begun.Laws as Begun″
+use Rattle.indexing.proofs.Built as Built′
+use Rattle.indexing.proofs.Built.Laws as Built″
 use Rattle.indexing.proofs.Filling as Filling′
 use Rattle.indexing.proofs.Filling.Laws as Filling″
 pub use Rattle.walks.proofs.Plain.{Plain, at-v}
@@ -34,6 +38,12 @@ headP = record { T = IndexHead′.the-row; v = IndexHead″.lowered; ty = IndexH
 
 abbrev pub searchP : Plain
 searchP = record { T = Search′.the-row; v = Search″.lowered; ty = Search″.mir; tells = Search″.lowers .val-is; typed = λ 𝓤 H A W x u is. LL.lawful Search′.the-type Search″.the-laws 𝓤 H A W .typed x (u ∷ []) is .0; makes = λ 𝓤 H A W. LL.makes Search′.the-type Search″.the-plain 𝓤 H A; last = λ x. tt; silent = λ x f. refl }
+
+abbrev pub begunP : Plain
+begunP = record { T = Begun′.the-row; v = Begun″.lowered; ty = Begun″.mir; tells = Begun″.lowers .val-is; typed = λ 𝓤 H A W x u is. LL.lawful Begun′.the-type Begun″.the-laws 𝓤 H A W .typed x (u ∷ []) is .0; makes = λ 𝓤 H A W. LL.makes Begun′.the-type Begun″.the-plain 𝓤 H A; last = λ x. tt; silent = λ x f. refl }
+
+abbrev pub builtP : Plain
+builtP = record { T = Built′.the-row; v = Built″.lowered; ty = Built″.mir; tells = Built″.lowers .val-is; typed = λ 𝓤 H A W x u is. LL.lawful Built′.the-type Built″.the-laws 𝓤 H A W .typed x (u ∷ []) is .0; makes = λ 𝓤 H A W. LL.makes Built′.the-type Built″.the-plain 𝓤 H A; last = λ x. tt; silent = λ x f. refl }
 
 -- a record can be read out of a shared row
 pub copied : {M : Type 1} (𝓤 : URA M) (H : Heap 𝓤) (A : Atoms 𝓤) → Given 𝓤 H A → Copy 𝓤 H A (sessionP .T)

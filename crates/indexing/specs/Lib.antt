@@ -1,3 +1,4 @@
 pub mod Filling
 pub mod Asking
 pub mod Looking
+pub mod Building

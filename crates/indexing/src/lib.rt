@@ -1,6 +1,7 @@
 // The index of a log for one label: its records filled in, entry by entry.
 mod asking;
 mod begin;
+mod building;
 mod entries;
 mod looking;
 mod numbers;
@@ -8,6 +9,7 @@ mod numbers;
 pub use asking::answer_at;
 pub use asking::ask_refusal;
 pub use begin::begin_fill;
+pub use building::build;
 pub use entries::fill;
 pub use entries::fill_one;
 pub use looking::ask;
@@ -47,4 +49,10 @@ pub struct Search {
     pub label: u32,
     pub reading: u64,
     pub answer: Answer,
+}
+
+// What building says: 0, 19 or 13, and the head, which is noughts beside a refusal.
+pub struct Built {
+    pub head: IndexHead,
+    pub answer: u32,
 }
