@@ -36,7 +36,7 @@ use Rattle.log.proofs.Entries.{skips, rest-joined, point-joined, rises-front, r
 use Rattle.log.proofs.Asking.{Wholes, OurLog, wholes-front, rises-start, start-order, index-holds, frontOf, ask-all}
 
 -- what is left behind whole records is the end of the octets
-shorter : (m : ℕ) (s : List ℕ) → length (restAfter m s) ≤ length s
+pub shorter : (m : ℕ) (s : List ℕ) → length (restAfter m s) ≤ length s
 unfolding restAfter behind
 shorter zero s = omega arith
 shorter (suc m) s = omega (arith, shorter m (drop (sizeIn s) s), length-drop (sizeIn s) s)

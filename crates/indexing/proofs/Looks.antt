@@ -169,13 +169,33 @@ module _ (log clocks places : List ℕ) (records : List Session) (l u : ℕ) whe
           subst (λ (y : Search). Sofar y × (y .n < x .n)) (look-halved x s log clock place (known ∙ e) two)
           (split (leb clock (x .reading))
           (λ g. let g′ : leb clock u ≡ true = ap (leb clock) (sym (w .reading)) ∙ g in
-          rw g (record { label = w .label; reading = w .reading; k = w .k - 1; enough = omega (arith, w .enough); inside = omega (arith, at-entry, w .inside); few = omega (arith, seen, w .few);
-            goes = λ m. (λ j. onFrom (w .k - 1) (at-entry j) (x .n - x .n / 2) (seen j)) ∙ sym (on-later (w .k) (x .first) (x .n) (x .looked) (w .enough) two e g′) ∙ w .goes some;
-            ends = λ z. absurd (omega arith) }, omega arith))
+          rw g (
+            record {
+              label = w .label;
+              reading = w .reading;
+              k = w .k - 1;
+              enough = omega (arith, w .enough);
+              inside = omega (arith, at-entry, w .inside);
+              few = omega (arith, seen, w .few);
+              goes = λ m. (λ j. onFrom (w .k - 1) (at-entry j) (x .n - x .n / 2) (seen j)) ∙ sym (on-later (w .k) (x .first) (x .n) (x .looked) (w .enough) two e g′) ∙ w .goes some;
+              ends = λ z. absurd (omega arith);
+            },
+            omega arith,
+          ))
           (λ g. let g′ : leb clock u ≡ false = ap (leb clock) (sym (w .reading)) ∙ g in
-          rw g (record { label = w .label; reading = w .reading; k = w .k - 1; enough = omega (arith, w .enough); inside = omega (arith, w .inside); few = omega (arith, seen, w .few);
-            goes = λ m. ap (onFrom (w .k - 1) (x .first) (x .n / 2)) seen ∙ sym (on-earlier (w .k) (x .first) (x .n) (x .looked) (w .enough) two e g′) ∙ w .goes some;
-            ends = λ z. absurd (omega arith) }, omega arith)))))
+          rw g (
+            record {
+              label = w .label;
+              reading = w .reading;
+              k = w .k - 1;
+              enough = omega (arith, w .enough);
+              inside = omega (arith, w .inside);
+              few = omega (arith, seen, w .few);
+              goes = λ m. ap (onFrom (w .k - 1) (x .first) (x .n / 2)) seen ∙ sym (on-earlier (w .k) (x .first) (x .n) (x .looked) (w .enough) two e g′) ∙ w .goes some;
+              ends = λ z. absurd (omega arith);
+            },
+            omega arith,
+          )))))
           (λ e. subst (λ (y : Search). Sofar y × (y .n < x .n)) (look-out x s log clock place (known ∙ e)) (over (refusedWith 20) (sym (on-out (w .k) (x .first) (x .n) (x .looked) (w .enough) e) ∙ w .goes some), some)))
 
 -- ---- the start
@@ -204,6 +224,14 @@ starts log h clocks places records l u =
     let refusal = askRefusal log h l u (roomOf (length clocks) (length places) (length records)) in
     split (eqb refusal 0)
     (λ e. let counted = head-passed h l (length log) _ (ask-passed log h l u _ (eqb-true refusal 0 e) .1 .1) in
-    rw e (record { label = refl; reading = refl; k = h .count; enough = omega arith; inside = omega (arith, counted .1 .0); few = omega (arith, counted .1 .0);
-      goes = λ m. from-start log clocks places records l u (h .count); ends = λ z. absurd (omega (arith, counted .0)) }))
+    rw e (record {
+      label = refl;
+      reading = refl;
+      k = h .count;
+      enough = omega arith;
+      inside = omega (arith, counted .1 .0);
+      few = omega (arith, counted .1 .0);
+      goes = λ m. from-start log clocks places records l u (h .count);
+      ends = λ z. absurd (omega (arith, counted .0));
+    }))
     (λ e. rw e (record { label = refl; reading = refl; k = 0; enough = omega arith; inside = omega arith; few = omega arith; goes = λ m. absurd (omega arith); ends = λ z. refl }))

@@ -12,9 +12,9 @@ pub use begin::begin_fill;
 pub use building::build;
 pub use entries::fill;
 pub use entries::fill_one;
-pub use looking::ask;
 use log::Answer;
 use log::Point;
+pub use looking::ask;
 pub use numbers::fill_numbers;
 
 // How far an index is filled in: what stands before the entry that comes next, the place of the next

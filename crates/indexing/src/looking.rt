@@ -107,15 +107,7 @@ fn look_at(x: Search, s: Session, log: &[u8], clocks: &[u64], places: &[u64]) ->
     let place = number_at(places, at);
     if entry_fits(s, clock, place, x.label, log.len() as u64) {
         if x.n < 2 {
-            let a = answer_at(
-                log,
-                place as usize,
-                s,
-                clock,
-                x.label,
-                x.reading,
-                x.looked,
-            );
+            let a = answer_at(log, place as usize, s, clock, x.label, x.reading, x.looked);
             return ended_with(x, a);
         }
         return halved_by(x, clock);
