@@ -2,6 +2,7 @@
 -- Assumes nothing.
 use Prim.Native.Nat.{ℕ, zero, suc, min, _+_, _*_, _-_, _/_, _≤_, _<_}
 use native.Mathlib.Omega.{arith}
+use native.Mathlib.Nat.{min-le-left, min-le-right}
 use mathlib.Core.Path.{_≡_, refl, sym, ap, _∙_}
 use mathlib.Core.Bool.{Bool, true, false, cond, not, _&&_, _||_}
 use mathlib.Core.Option.{Option, none, some}
@@ -20,12 +21,12 @@ use Rattle.table.proofs.Order.{order-says}
 use Rattle.table.proofs.Rows.{found-is}
 use Rattle.walks.specs.AtPlace.{Afterwards, atPlace}
 use Rattle.halving.specs.Search.{found, looksOf, looks}
-use Rattle.halving.proofs.Halves.{found-inside}
+use Rattle.halving.proofs.Halves.{found-inside, looks-eight}
 use Rattle.own.specs.Records.{heldIn}
 use Rattle.log.specs.declared.Answer.{Answer}
 use Rattle.log.specs.declared.Point.{Point}
 use Rattle.log.specs.Records.{loggedBy, headerFits}
-use Rattle.log.specs.Reading.{entryFits, countOf, refusedWith}
+use Rattle.log.specs.Reading.{readTo, answerFrom, entryFits, countOf, refusedWith}
 use Rattle.log.specs.Runs.{Ours, behindAll}
 use Rattle.log.specs.Entries.{entryPoint, entryRest, entryPlace}
 use Rattle.log.proofs.Runs.{Agrees, order-behind, reported}
@@ -33,11 +34,11 @@ use Rattle.log.proofs.Asking.{OurLog, start-order, index-holds, frontOf}
 use Rattle.indexing.specs.declared.Filling.{Filling}
 use Rattle.indexing.specs.declared.IndexHead.{IndexHead}
 use Rattle.indexing.specs.Filling.{unfilled, filledBy, fillOne, fillsOf, fillAll, fillingFrom, entriesOf, buildAnswer, begunOf, Noted, noteOne, notesOf, noteAll}
-use Rattle.indexing.specs.Asking.{headFits, askRefusal, roomOf, fitsAt, allFit, answerOf, searched, askOf}
+use Rattle.indexing.specs.Asking.{headFits, askRefusal, answerAt, roomOf, fitsAt, allFit, answerOf, searched, askOf}
 use Rattle.indexing.specs.Building.{Index, headBy, buildOf}
 use Rattle.indexing.proofs.Fills.{stays, goes-on, notes-stay, notes-go}
 use Rattle.indexing.proofs.Counts.{Whole, count-whole, header-size}
-use Rattle.indexing.proofs.Builds.{records-few}
+use Rattle.indexing.proofs.Looks.{head-passed, ask-passed}
 use Rattle.indexing.proofs.Filled.{shorter, records-built, numbers-built, askedAt, ask-built}
 
 -- one of those that all pass passes
@@ -126,3 +127,104 @@ module _ (row : List Session) (log : List ℕ) (n : ℕ) (our : OurLog row log n
         let all : searched log clocks places records l u (head .count) ≡ askedAt row log n our l clocks places records absent u count = ap (searched log clocks places records l u) same ∙ searched-is u in
         let w = ask-built row log n our l u top clocks places records absent count counted h cs ps rs in
         rw passed (ap (λ (x : Answer). x .answer) all ∙ w .0, ap (λ (x : Answer). x .report) all ∙ w .1)
+
+-- ---- the index that is built
+-- where building answers 0, there are the entries of the records counted
+module _ (log : List ℕ) (l : ℕ) (cs ps : List ℕ) (rs : List Session) where
+  abbrev room : ℕ
+  room = roomOf (length cs) (length ps) (length rs)
+
+  abbrev entries : ℕ
+  entries = entriesOf (countOf log .count)
+
+  abbrev from : Filling
+  from = fillingFrom l entries
+
+  abbrev head : IndexHead
+  head = record { length = length log; label = l; count = entries }
+
+  abbrev whole : Index
+  whole = record { built = record { head = head; answer = buildAnswer log room }; clocks = noteAll cs ps from log .clocks; places = noteAll cs ps from log .places; records = fillAll rs from log .row }
+
+  pub built-is : buildOf log l cs ps rs .built .answer ≡ 0 → buildOf log l cs ps rs ≡ whole
+  unfolding buildOf begunOf
+  built-is e = rw (eq-eqb (buildAnswer log room) 0 e)
+
+  built-answer : buildOf log l cs ps rs .built .answer ≡ 0 → buildAnswer log room ≡ 0
+  unfolding buildOf begunOf
+  built-answer e = e
+
+  -- what was counted, and that there is room
+  built-counted : buildAnswer log room ≡ 0 → (countOf log .answer ≡ 0) × (entries ≤ room)
+  built-counted e = let a = orElse-passed (countOf log .answer) _ e in (a .0, ltb-false room entries (bar-passed (ltb room entries) 12 0 (a .1) .0))
+
+  lengths : (length (whole .clocks) ≡ length cs) × ((length (whole .places) ≡ length ps) × (length (whole .records) ≡ length rs))
+  lengths =
+      let w = notes-length (entries - 0) log (record { filling = from; clocks = cs; places = ps }) in
+      (w .0, (w .1, fills-length (entries - 0) log (record { outcome = from; row = rs })))
+
+  module _ (row : List Session) (sized : length row ≡ 64) (ours : Ours (emptied row) (loggedBy (countOf log .count) (drop 8 log))) (u : ℕ) (top : u ≤ latest) (e : buildOf log l cs ps rs .built .answer ≡ 0) where
+    abbrev n : ℕ
+    n = countOf log .count
+
+    is-whole : Whole log
+    is-whole = count-whole log (built-counted (built-answer e) .0)
+
+    our : OurLog row log n
+    our = record { rows = sized; few = is-whole .few; whole = is-whole .ends .whole; all = is-whole .ends .all; ours = ours }
+
+    enough : (entries ≤ length cs) × ((entries ≤ length ps) × (entries ≤ length rs))
+    enough =
+        let h = built-counted (built-answer e) .1 in
+        let a = min-le-left (length cs) (min (length ps) (length rs)) in
+        let b = min-le-right (length cs) (min (length ps) (length rs)) in
+        (omega (arith, h, a), (omega (arith, h, b, min-le-left (length ps) (length rs)), omega (arith, h, b, min-le-right (length ps) (length rs))))
+
+    passed : askRefusal log head l u (roomOf (length (whole .clocks)) (length (whole .places)) (length (whole .records))) ≡ 0
+    unfolding askRefusal
+    passed =
+        let some : eqb entries 0 ≡ false = ne-eqb entries 0 (λ z. omega arith) in
+        let few : leb entries 256 ≡ true = le-leb entries 256 (omega (arith, is-whole .few)) in
+        let same : roomOf (length (whole .clocks)) (length (whole .places)) (length (whole .records)) ≡ room = λ i. roomOf (lengths .0 i) (lengths .1 .0 i) (lengths .1 .1 i) in
+        let fits : leb entries room ≡ true = le-leb entries room (built-counted (built-answer e) .1) in
+        rw (le-ltb latest u top, is-whole .header, eq-eqb l l refl, eq-eqb (length log) (length log) refl, some, few, same, fits) refl
+
+    asked-whole : (askOf log head (whole .clocks) (whole .places) (whole .records) l u .answer ≡ reported (frontOf row log u) u l .number) × (askOf log head (whole .clocks) (whole .places) (whole .records) l u .report ≡ reported (frontOf row log u) u l .report)
+    asked-whole =
+        let h = header-size log (is-whole .header) in
+        let m = enough in
+        ask-head row log n our l (whole .clocks) (whole .places) (whole .records) entries refl h
+        (λ i k. numbers-built row log n our l entries i cs ps refl h (m .0) (m .1 .0) .0 ∙ rw (lt-ltb i entries k))
+        (λ i k. numbers-built row log n our l entries i cs ps refl h (m .0) (m .1 .0) .1 ∙ rw (lt-ltb i entries k))
+        (λ i k. records-built row log n our l entries i rs absent refl h (m .1 .1) ∙ rw (lt-ltb i entries k))
+        u top head refl passed
+
+    -- of a log whose answers are our run's, the index that is built, asked at any reading, gives the report of our run
+    pub ask-run : (askOf log (buildOf log l cs ps rs .built .head) (buildOf log l cs ps rs .clocks) (buildOf log l cs ps rs .places) (buildOf log l cs ps rs .records) l u .answer ≡ reported (frontOf row log u) u l .number)
+        × (askOf log (buildOf log l cs ps rs .built .head) (buildOf log l cs ps rs .clocks) (buildOf log l cs ps rs .places) (buildOf log l cs ps rs .records) l u .report ≡ reported (frontOf row log u) u l .report)
+    ask-run =
+        let b = built-is e in
+        (ap (λ (x : Index). askOf log (x .built .head) (x .clocks) (x .places) (x .records) l u .answer) b ∙ asked-whole .0, ap (λ (x : Index). askOf log (x .built .head) (x .clocks) (x .places) (x .records) l u .report) b ∙ asked-whole .1)
+
+-- ---- the number of looks, of any index
+answer-looks : (log : List ℕ) (place : ℕ) (s : Session) (clock l u looked : ℕ) → looked ≤ 8 → answerAt log place s clock l u looked .looked ≤ 8
+unfolding answerAt answerFrom
+answer-looks log place s clock l u looked h =
+    let e = readTo 256 l u (drop place log) (record { session = s; clock = clock }) in
+    split (e .cut) (λ c. rw c (omega arith))
+    (λ c. split (eqb (e .point .session .settings .label) 0) (λ z. rw (c, z) (omega arith)) (λ z. rw (c, z) h))
+
+-- at most 8 entries are looked at, whatever is asked of whatever is lent
+pub asked-eight : (log : List ℕ) (h : IndexHead) (clocks places : List ℕ) (records : List Session) (l u : ℕ) → askOf log h clocks places records l u .looked ≤ 8
+unfolding askOf
+asked-eight log h clocks places records l u =
+    let refusal = askRefusal log h l u (roomOf (length clocks) (length places) (length records)) in
+    let k = found clocks u 0 (h .count) .place in
+    let fits = fitsAt (length log) clocks places records l in
+    split (eqb refusal 0)
+    (λ e.
+    let counted = head-passed h l (length log) _ (ask-passed log h l u _ (eqb-true refusal 0 e) .1 .1) in
+    split (allFit fits (looks clocks u 0 (h .count)) && fits k)
+    (λ f. rw (e, f) (answer-looks log (getD places k 0) (getD records k absent) (getD clocks k 0) l u (found clocks u 0 (h .count) .looked) (looks-eight clocks u 0 (h .count) (counted .1 .0))))
+    (λ f. rw (e, f) (omega arith)))
+    (λ e. rw e (omega arith))
