@@ -21,7 +21,7 @@ use Rattle.table.proofs.Order.{order-says}
 use Rattle.table.proofs.Rows.{found-is}
 use Rattle.walks.specs.AtPlace.{Afterwards, atPlace}
 use Rattle.halving.specs.Search.{found, looksOf, looks}
-use Rattle.halving.proofs.Halves.{found-inside, looks-eight}
+use Rattle.halving.proofs.Halves.{found-inside, looks-eight, looked-is}
 use Rattle.own.specs.Records.{heldIn}
 use Rattle.log.specs.declared.Answer.{Answer}
 use Rattle.log.specs.declared.Point.{Point}
@@ -228,3 +228,25 @@ asked-eight log h clocks places records l u =
     (λ f. rw (e, f) (answer-looks log (getD places k 0) (getD records k absent) (getD clocks k 0) l u (found clocks u 0 (h .count) .looked) (looks-eight clocks u 0 (h .count) (counted .1 .0))))
     (λ f. rw (e, f) (omega arith)))
     (λ e. rw e (omega arith))
+
+-- the number told beside 0 is that of the list of looks
+answer-counts : (log : List ℕ) (place : ℕ) (s : Session) (clock l u looked : ℕ) → answerAt log place s clock l u looked .answer ≡ 0 → answerAt log place s clock l u looked .looked ≡ looked
+unfolding answerAt answerFrom
+answer-counts log place s clock l u looked h =
+    let e = readTo 256 l u (drop place log) (record { session = s; clock = clock }) in
+    split (e .cut) (λ c. absurd (let z : _≡_ {A = ℕ} 19 0 = rw c at h in omega arith))
+    (λ c. split (eqb (e .point .session .settings .label) 0) (λ z. absurd (let y : _≡_ {A = ℕ} 2 0 = rw (c, z) at h in omega arith)) (λ z. rw (c, z) refl))
+
+pub asked-looks : (log : List ℕ) (h : IndexHead) (clocks places : List ℕ) (records : List Session) (l u : ℕ) → askOf log h clocks places records l u .answer ≡ 0
+    → askOf log h clocks places records l u .looked ≡ length (looks clocks u 0 (h .count))
+unfolding askOf
+asked-looks log h clocks places records l u said =
+    let refusal = askRefusal log h l u (roomOf (length clocks) (length places) (length records)) in
+    let k = found clocks u 0 (h .count) .place in
+    let fits = fitsAt (length log) clocks places records l in
+    split (eqb refusal 0)
+    (λ e.
+    split (allFit fits (looks clocks u 0 (h .count)) && fits k)
+    (λ f. rw (e, f) (answer-counts log (getD places k 0) (getD records k absent) (getD clocks k 0) l u (found clocks u 0 (h .count) .looked) (rw (e, f) at said) ∙ looked-is clocks u 0 (h .count)))
+    (λ f. absurd (let z : _≡_ {A = ℕ} 20 0 = rw (e, f) at said in omega arith)))
+    (λ e. absurd (eqb-false refusal 0 e (rw e at said)))
