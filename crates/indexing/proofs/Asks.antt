@@ -4,11 +4,11 @@ use Prim.Native.Nat.{ℕ, zero, suc, min, _+_, _*_, _-_, _/_, _≤_, _<_}
 use native.Mathlib.Omega.{arith}
 use native.Mathlib.Nat.{min-le-left, min-le-right}
 use mathlib.Core.Path.{_≡_, refl, sym, ap, _∙_}
-use mathlib.Core.Bool.{Bool, true, false, cond, not, _&&_, _||_}
-use mathlib.Core.Option.{Option, none, some}
-use mathlib.Core.List.{List, [], _∷_, List·Memᴰ}
+use mathlib.Core.Bool.{Bool, true, false, not, _&&_, _||_}
+use mathlib.Core.Option.{some}
+use mathlib.Core.List.{List, List·Memᴰ}
 use lib.Dec.{eqb, ltb, leb}
-use lib.ListN.{length, getD, set, drop, length-drop, length-set}
+use lib.ListN.{length, getD, drop, length-drop, length-set}
 use borrow.Author.Tests.{eqb-true, eqb-false, eq-eqb, ne-eqb, ltb-false, lt-ltb, le-ltb, le-leb}
 use Rattle.octets.proofs.Chain.{orElse-passed, bar-passed}
 use Rattle.rules.specs.Times.{latest}
@@ -16,7 +16,7 @@ use Rattle.rules.proofs.Bools.{split, no-way, both-true}
 use Rattle.rules.proofs.Lists.{any-at}
 use Rattle.session.specs.declared.Session.{Session}
 use Rattle.session.specs.Soundness.{sessionSound}
-use Rattle.table.specs.Table.{Table, openOf, inOrder, every, find, emptied, absent}
+use Rattle.table.specs.Table.{Table, openOf, inOrder, every, emptied, absent}
 use Rattle.table.proofs.Order.{order-says}
 use Rattle.table.proofs.Rows.{found-is}
 use Rattle.walks.specs.AtPlace.{Afterwards, atPlace}
@@ -25,17 +25,17 @@ use Rattle.halving.proofs.Halves.{found-inside, looks-eight, looked-is}
 use Rattle.own.specs.Records.{heldIn}
 use Rattle.log.specs.declared.Answer.{Answer}
 use Rattle.log.specs.declared.Point.{Point}
-use Rattle.log.specs.Records.{loggedBy, headerFits}
-use Rattle.log.specs.Reading.{readTo, answerFrom, entryFits, countOf, refusedWith}
+use Rattle.log.specs.Records.{loggedBy}
+use Rattle.log.specs.Reading.{readTo, answerFrom, entryFits, countOf}
 use Rattle.log.specs.Runs.{Ours, behindAll}
-use Rattle.log.specs.Entries.{entryPoint, entryRest, entryPlace}
+use Rattle.log.specs.Entries.{entryPoint, entryPlace}
 use Rattle.log.proofs.Runs.{Agrees, order-behind, reported}
 use Rattle.log.proofs.Asking.{OurLog, start-order, index-holds, frontOf}
 use Rattle.indexing.specs.declared.Filling.{Filling}
 use Rattle.indexing.specs.declared.IndexHead.{IndexHead}
-use Rattle.indexing.specs.Filling.{unfilled, filledBy, fillOne, fillsOf, fillAll, fillingFrom, entriesOf, buildAnswer, begunOf, Noted, noteOne, notesOf, noteAll}
-use Rattle.indexing.specs.Asking.{headFits, askRefusal, answerAt, roomOf, fitsAt, allFit, answerOf, searched, askOf}
-use Rattle.indexing.specs.Building.{Index, headBy, buildOf}
+use Rattle.indexing.specs.Filling.{unfilled, fillOne, fillsOf, fillAll, fillingFrom, entriesOf, buildAnswer, begunOf, Noted, noteOne, notesOf, noteAll}
+use Rattle.indexing.specs.Asking.{askRefusal, answerAt, roomOf, fitsAt, allFit, searched, askOf}
+use Rattle.indexing.specs.Building.{Index, buildOf}
 use Rattle.indexing.proofs.Fills.{stays, goes-on, notes-stay, notes-go}
 use Rattle.indexing.proofs.Counts.{Whole, count-whole, header-size}
 use Rattle.indexing.proofs.Looks.{head-passed, ask-passed}

@@ -1,26 +1,25 @@
 -- An index built in one call: the parts come to `buildOf`, and a refusal writes nothing.
 -- Assumes nothing.
-use Prim.Native.Nat.{ℕ, min, _+_, _-_, _/_, _≤_, _<_}
+use Prim.Native.Nat.{ℕ, min, _-_, _≤_}
 use native.Mathlib.Omega.{arith}
 use native.Mathlib.Nat.{min-eq-left}
-use mathlib.Core.Path.{_≡_, refl, sym, ap, _∙_}
-use mathlib.Core.Bool.{Bool, true, false, cond, _&&_}
+use mathlib.Core.Path.{_≡_, refl, ap, _∙_}
+use mathlib.Core.Bool.{_&&_}
 use mathlib.Core.List.{List}
 use lib.Dec.{eqb, ltb}
 use lib.ListN.{length}
-use borrow.Author.Tests.{eqb-true, ne-eqb, ltb-true}
+use borrow.Author.Tests.{ne-eqb, ltb-true}
 use Rattle.octets.proofs.Chain.{and-both}
 use Rattle.rules.proofs.Bools.{split}
 use Rattle.session.specs.declared.Session.{Session}
 use Rattle.walks.specs.AtPlace.{Afterwards}
-use Rattle.log.specs.declared.Counted.{Counted}
 use Rattle.log.specs.declared.Ended.{Ended}
 use Rattle.log.specs.Records.{headerFits}
 use Rattle.log.specs.Reading.{countOf, countedBy, readAll}
 use Rattle.indexing.specs.declared.Begun.{Begun}
 use Rattle.indexing.specs.declared.Built.{Built}
 use Rattle.indexing.specs.declared.Filling.{Filling}
-use Rattle.indexing.specs.Filling.{entriesOf, buildAnswer, begunOf, fillsOf, fillAll, notesOf, noteAll}
+use Rattle.indexing.specs.Filling.{buildAnswer, begunOf, fillsOf, fillAll, notesOf}
 use Rattle.indexing.specs.Asking.{roomOf}
 use Rattle.indexing.specs.Building.{Index, headBy, buildOf, Numbered, numberedOf, builtBy}
 

@@ -2,8 +2,8 @@
 -- Assumes nothing.
 use Prim.Native.Nat.{ℕ, zero, suc, _-_, _≤_, _<_}
 use native.Mathlib.Omega.{arith}
-use mathlib.Core.Path.{_≡_, refl, sym, ap, _∙_}
-use mathlib.Core.Bool.{Bool, true, false, cond, _&&_}
+use mathlib.Core.Path.{_≡_}
+use mathlib.Core.Bool.{true, _&&_}
 use mathlib.Core.List.{List}
 use lib.Dec.{eqb, ltb, leb}
 use lib.ListN.{length, drop}
@@ -11,10 +11,8 @@ use borrow.Author.Tests.{eqb-true, ltb-true, leb-true}
 use Rattle.octets.proofs.Chain.{and-both}
 use Rattle.rules.proofs.Bools.{split}
 use Rattle.log.specs.declared.Point.{Point}
-use Rattle.log.specs.declared.Ended.{Ended}
-use Rattle.log.specs.declared.Counted.{Counted}
-use Rattle.log.specs.Records.{isWhole, behind, headerFits, headerIs}
-use Rattle.log.specs.Reading.{followed, moreOf, readTo, never, atStart, readAll, countedBy, countOf}
+use Rattle.log.specs.Records.{isWhole, behind, headerFits}
+use Rattle.log.specs.Reading.{followed, moreOf, readTo, never, atStart, readAll, countOf}
 use Rattle.log.specs.Entries.{restAfter}
 use Rattle.log.proofs.Turns.{more-whole, spare-most}
 use Rattle.log.proofs.Asking.{Wholes}

@@ -5,10 +5,10 @@ use native.Mathlib.Omega.{arith}
 use native.Mathlib.Nat.{min-eq-left}
 use mathlib.Core.Path.{_≡_, refl, sym, ap, subst, _∙_}
 use mathlib.Core.Bool.{Bool, true, false, cond, not, _&&_}
-use mathlib.Core.List.{List, [], _∷_}
+use mathlib.Core.List.{List, []}
 use lib.Dec.{eqb, ltb, leb}
 use lib.ListN.{length, getD}
-use borrow.Author.Tests.{eqb-true, eqb-false, eq-eqb, ne-eqb, ltb-true, ltb-false, lt-ltb, le-ltb, le-leb, lt-leb, leb-true, not-true}
+use borrow.Author.Tests.{eqb-true, eqb-false, ltb-true, ltb-false, lt-ltb, le-ltb, leb-true, not-true}
 use Rattle.octets.proofs.Chain.{need-passed, bar-passed, and-both}
 use Rattle.rules.specs.Times.{latest}
 use Rattle.rules.proofs.Bools.{split}
@@ -22,7 +22,7 @@ use Rattle.log.specs.Reading.{entryFits, refusedWith}
 use Rattle.indexing.specs.declared.IndexHead.{IndexHead}
 use Rattle.indexing.specs.declared.Search.{Search}
 use Rattle.indexing.specs.Asking.{headFits, askRefusal, answerAt, roomOf, fitsAt, allFit, answerOf, searched, askOf}
-use Rattle.indexing.specs.Looking.{entryOf, isOpen, endedWith, later, earlier, halvedBy, lookedAt, startWith, searchFrom}
+use Rattle.indexing.specs.Looking.{entryOf, endedWith, halvedBy, lookedAt, searchFrom}
 
 -- ---- one look, from the clock and the place that were read
 abbrev pub byLook : Search → Session → List ℕ → ℕ → ℕ → Search

@@ -2,7 +2,7 @@
 --     Asked            what is lent and passed.        Quest     what the callees say, what holds where a turn begins, and what is said in the end
 --     Start, More, Goes, Read, Turns, Told     the callees' contracts.        ended, runs     the signature and the clauses of f.        meets      the MIR meets them, where the six meet their contracts
 -- Assumes nothing.
-use mathlib.Core.Path.{_≡_, refl, sym, ap, subst, _∙_}
+use mathlib.Core.Path.{_≡_, refl, ap, subst}
 use mathlib.Core.Bool.{Bool, not}
 use mathlib.Core.WellFounded.{WellFounded, InvImage·wf}
 use Prim.Native.Nat.{ℕ, _<_, _^_}

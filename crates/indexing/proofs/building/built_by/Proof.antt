@@ -1,6 +1,5 @@
 -- `indexing::built_by` meets its contract.
 -- Assumes nothing.
-use Prim.Native.Nat.{ℕ}
 use mathlib.Core.Path.{ap, _∙_}
 use borrow.Author.Needs.{needs}
 use Rattle.indexing.specs.Building.{headBy}
