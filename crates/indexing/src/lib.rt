@@ -40,11 +40,12 @@ pub struct IndexHead {
     pub count: u32,
 }
 
-// A search among the entries: the first candidate and how many there are, the entries looked at, what
-// was asked, and the answer where no candidate is left.
+// The way to the entry that the search found: the first candidate and how many there are, that entry
+// and the number of entries looked at, what was asked, and the answer where no candidate is left.
 pub struct Search {
     pub first: usize,
     pub n: usize,
+    pub place: usize,
     pub looked: usize,
     pub label: u32,
     pub reading: u64,

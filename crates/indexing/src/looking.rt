@@ -1,8 +1,11 @@
-// An index asked, entry by entry.
+// An index asked. The entry is found by `halving`'s search; then each entry that it looked at is
+// judged with its record, on the way to the one that was found.
 use crate::IndexHead;
 use crate::Search;
 use crate::asking::answer_at;
 use crate::asking::ask_refusal;
+use halving::Found;
+use halving::find;
 use log::Answer;
 use log::entry_fits;
 use octets::least;
@@ -76,7 +79,6 @@ fn later(x: Search) -> Search
     let mut next = x;
     next.first = entry_of(x);
     next.n = x.n - x.n / 2;
-    next.looked = least(x.looked, 256) + 1;
     next
 }
 
@@ -85,20 +87,21 @@ fn earlier(x: Search) -> Search
 {
     let mut next = x;
     next.n = x.n / 2;
-    next.looked = least(x.looked, 256) + 1;
     next
 }
 
-fn halved_by(x: Search, clock: u64) -> Search
-    ensures { λ r. ⌜ r ≡ halvedBy x clock ⌝ }
+// The search went on from an entry exactly if what it found is not before it.
+fn halved_by(x: Search) -> Search
+    ensures { λ r. ⌜ r ≡ halvedBy x ⌝ }
 {
-    if clock <= x.reading {
+    let at = entry_of(x);
+    if at <= x.place {
         return later(x);
     }
     earlier(x)
 }
 
-// One entry, of which s is the record. An entry out of range ends the search with 20.
+// One entry, of which s is the record. An entry out of range ends it with 20.
 fn look_at(x: Search, s: Session, log: &[u8], clocks: &[u64], places: &[u64]) -> Search
     ensures { λ r. ⌜ r ≡ lookedAt x s (now (log .entry)) (now (clocks .entry)) (now (places .entry)) ⌝ }
 {
@@ -110,7 +113,7 @@ fn look_at(x: Search, s: Session, log: &[u8], clocks: &[u64], places: &[u64]) ->
             let a = answer_at(log, place as usize, s, clock, x.label, x.reading, x.looked);
             return ended_with(x, a);
         }
-        return halved_by(x, clock);
+        return halved_by(x);
     }
     ended_with(x, refused_with(20))
 }
@@ -124,15 +127,16 @@ fn count_if(refusal: u32, count: usize) -> usize
     0
 }
 
-fn start_with(refusal: u32, count: usize, label: u32, reading: u64) -> Search
-    ensures { λ r. ⌜ r ≡ startWith refusal count label reading ⌝ }
+fn start_with(refusal: u32, count: usize, f: Found, label: u32, reading: u64) -> Search
+    ensures { λ r. ⌜ r ≡ startWith refusal count f label reading ⌝ }
 {
     let n = count_if(refusal, count);
     let answer = refused_with(refusal);
     Search {
         first: 0,
         n: n,
-        looked: 0,
+        place: f.place,
+        looked: f.looked,
         label: label,
         reading: reading,
         answer: answer,
@@ -146,7 +150,7 @@ pub(crate) fn room_of(clocks: usize, places: usize, records: usize) -> usize
     least(clocks, least(places, records))
 }
 
-// Before the first look. Beside a refusal there is no candidate.
+// The entry is found, and no entry is judged yet. Beside a refusal there is no candidate.
 fn search_from(
     log: &[u8],
     head: IndexHead,
@@ -160,7 +164,8 @@ fn search_from(
 {
     let room = room_of(clocks.len(), places.len(), records);
     let refusal = ask_refusal(log, head, label, reading, room);
-    start_with(refusal, head.count as usize, label, reading)
+    let f = find(clocks, head.count as usize, reading);
+    start_with(refusal, head.count as usize, f, label, reading)
 }
 
 fn record_of(records: &[Session], place: usize) -> Session

@@ -1,6 +1,5 @@
 -- `indexing::search_from` meets its contract.
 -- Assumes nothing.
-use Prim.Native.Nat.{ℕ}
 use mathlib.Core.Path.{ap, _∙_}
 use borrow.Author.Needs.{needs}
 use Rattle.indexing.specs.Asking.{askRefusal}
@@ -11,10 +10,20 @@ use Rattle.indexing.proofs.looking.search_from.Tie as tie
 returns : tie.Need-returns
 unfolding searchFrom
 returns c =
-    let a = c .before .before .before .before .before .before .before .args in
-    c .start-with .ensures
-    ∙ ap (λ (n : ℕ). startWith n (a .head .count) (a .label) (a .reading))
-    (c .before .before .ask-refusal .ensures ∙ ap (askRefusal (a .log .now) (a .head) (a .label) (a .reading)) (c .before .before .before .room-of .ensures))
+    let b = c .before .before .before .before in
+    let a = b .before .before .before .before .before .args in
+    let refusal = b .ask-refusal .ensures ∙ ap (askRefusal (a .log .now) (a .head) (a .label) (a .reading)) (b .before .room-of .ensures) in
+    let f = c .before .before .find .ensures in
+    c .start-with .ensures ∙ (λ i. startWith (refusal i) (a .head .count) (f i) (a .label) (a .reading))
 
 pub search-from-spec : {M : Type 1} → statement M
-search-from-spec = tie.close (tie.spec (λ c κs. search needs) (λ c κs. search needs) (λ c. search needs) (λ c κs. search needs) returns)
+search-from-spec =
+    tie.close
+    (tie.spec
+    (λ c κs. search needs)
+    (λ c κs. search needs)
+    (λ c. search needs)
+    (λ c κs. search needs)
+    (λ c. search needs)
+    (λ c κs. search needs)
+    returns)
