@@ -50,7 +50,7 @@ fn refused_with(n: u32) -> Answer
     }
 }
 
-// The entry that is looked at next.
+// The entry that the search looked at next; of one candidate, that one.
 fn entry_of(x: Search) -> usize
     ensures { λ r. ⌜ r ≡ entryOf x ⌝ }
 {
