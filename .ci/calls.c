@@ -1,9 +1,10 @@
-/* Stands before the C library's `read` and `write` where `.ci/calls` runs `watch` and `why`. Each of these variables of the
+/* Stands before the C library's `read` and `write` where `.ci/calls` runs the programs. Each of these variables of the
    environment changes what the system answers; without it nothing is changed.
    CALLS_READ: a read of standard input brings at most so many octets.
    CALLS_WRITE: a write to standard output takes at most so many octets.
    CALLS_INTERRUPT: every other call on either is interrupted before it moves an octet.
-   CALLS_FAIL: behind so many octets of standard input each read fails with EIO. */
+   CALLS_FAIL: behind so many octets of standard input each read fails with EIO.
+   CALLS_FILES: what is said of standard input holds of all files that are read, their octets counted together. */
 #define _GNU_SOURCE
 #include <errno.h>
 #include <stdlib.h>
@@ -29,7 +30,7 @@ static int interrupted(void)
 ssize_t read(int fd, void *buffer, size_t room)
 {
     static size_t given;
-    if (fd != STDIN_FILENO)
+    if (fd != STDIN_FILENO && !getenv("CALLS_FILES"))
         return syscall(SYS_read, fd, buffer, room);
     if (interrupted())
         return -1;

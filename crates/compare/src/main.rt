@@ -11,11 +11,13 @@ use window::opened;
 use window::passed;
 use window::seen;
 
-// The place where the rest begins, the number of the pair to come, and whether all agreed so far.
+// The place where the rest begins, the number of the pair to come, whether all agreed so far, and
+// whether all was written.
 struct Told {
     rest: u64,
     number: u64,
     agree: bool,
+    written: bool,
 }
 
 // Both files before a pair, what was told of those before it, and whether there was one.
@@ -32,10 +34,10 @@ struct Judged {
 }
 
 // ---- the lines
-fn say_pair(number: u64, m: Marks) {
+fn say_pair(number: u64, m: Marks) -> bool {
     let mut lines = [0u8; 512];
     let n = comparison::put_pair(&mut lines, 0, number, m);
-    syscall::write_text(b"compare", &lines, n, number);
+    syscall::write_text(b"compare", &lines, n, number)
 }
 
 fn say_refused(answer: u64) {
@@ -117,13 +119,14 @@ fn next_number(n: u64) -> u64 {
 
 // What a pair is to what is told. The rest begins with the first record that differs, and an extra
 // one of the second leaves none: there the first is at its end.
-fn told_by(t: Told, m: Marks, place: u64) -> Told {
+fn told_by(t: Told, m: Marks, place: u64, written: bool) -> Told {
     let number = next_number(t.number);
     if !t.agree {
         return Told {
             rest: t.rest,
             number: number,
             agree: false,
+            written: written,
         };
     }
     let alike = comparison::is_unmarked(m) && !m.first;
@@ -131,12 +134,21 @@ fn told_by(t: Told, m: Marks, place: u64) -> Told {
         rest: place,
         number: number,
         agree: alike,
+        written: written,
     }
+}
+
+// The second is not read where a read of the first failed.
+fn fill_second(a: Window, b: Window, second: &mut [u8]) -> Window {
+    if a.failed {
+        return b;
+    }
+    filled(b, second)
 }
 
 fn fill_both(p: Pair, first: &mut [u8], second: &mut [u8]) -> Pair {
     let a = filled(p.first, first);
-    let b = filled(p.second, second);
+    let b = fill_second(a, p.second, second);
     let told = p.told;
     Pair {
         first: a,
@@ -147,7 +159,7 @@ fn fill_both(p: Pair, first: &mut [u8], second: &mut [u8]) -> Pair {
 }
 
 fn is_failed(p: Pair) -> bool {
-    p.first.failed || p.second.failed
+    p.first.failed || p.second.failed || !p.told.written
 }
 
 fn stopped(p: Pair) -> Pair {
@@ -167,8 +179,8 @@ fn tell_next(p: Pair, first: &[u8], second: &[u8]) -> Pair {
     let s = seen(p.first, first);
     let t = seen(p.second, second);
     let m = comparison::marks_of(s, t);
-    say_pair(p.told.number, m);
-    let told = told_by(p.told, m, p.first.place);
+    let written = say_pair(p.told.number, m);
+    let told = told_by(p.told, m, p.first.place, written);
     let n = comparison::step_of(s);
     let k = comparison::step_of(t);
     let a = passed(p.first, n, 1);
@@ -177,11 +189,11 @@ fn tell_next(p: Pair, first: &[u8], second: &[u8]) -> Pair {
         first: a,
         second: b,
         told,
-        go: n > 0 || k > 0,
+        go: written && (n > 0 || k > 0),
     }
 }
 
-// One pair more, unless a read failed: behind that nothing is told.
+// One pair more, unless a read failed: behind that nothing is told, nor behind a write that failed.
 fn tell_pair(p: Pair, first: &mut [u8], second: &mut [u8]) -> Pair {
     let q = fill_both(p, &mut *first, &mut *second);
     if is_failed(q) {
@@ -212,11 +224,15 @@ fn behind_header(i: usize, buf: &mut [u8]) -> Window {
 // All pairs, and then the place where the rest begins.
 fn compare_files(first: &mut [u8], second: &mut [u8]) {
     let a = behind_header(1, &mut *first);
+    if a.failed {
+        return;
+    }
     let b = behind_header(2, &mut *second);
     let told = Told {
         rest: 8,
         number: 1,
         agree: true,
+        written: true,
     };
     let p = Pair {
         first: a,

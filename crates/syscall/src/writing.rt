@@ -45,8 +45,8 @@ fn write_on(name: &[u8], from: usize, to: usize, out: &[u8], number: u64) -> Wri
 }
 
 // Write by write, until the octets up to a place are written or a write fails; then standard error is
-// told, with the program's name and the number of the last record that was taken.
-pub fn write_text(name: &[u8], out: &[u8], to: usize, number: u64) {
+// told, with the program's name and the number of the last record that was taken. Whether all is written.
+pub fn write_text(name: &[u8], out: &[u8], to: usize, number: u64) -> bool {
     let mut from: usize = 0;
     let mut go = 0 < to;
     let mut turns = u64::MAX;
@@ -56,4 +56,5 @@ pub fn write_text(name: &[u8], out: &[u8], to: usize, number: u64) {
         go = x.go;
         turns -= 1;
     }
+    to <= from
 }
