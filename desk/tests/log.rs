@@ -12,7 +12,7 @@ use std::sync::atomic::{AtomicUsize, Ordering};
 
 /// The worked logs, with their paths.
 fn worked() -> Vec<(PathBuf, Vec<u8>)> {
-    let folder = package().join("../peer/tests/logs");
+    let folder = package().join("../crates/logs/data");
     let entries = std::fs::read_dir(folder).expect("a folder");
     let paths = entries.map(|entry| entry.expect("an entry").path());
     let logs = paths.filter(|path| path.extension().is_some_and(|end| end == "log"));
@@ -23,7 +23,7 @@ fn worked() -> Vec<(PathBuf, Vec<u8>)> {
 }
 
 fn path_of(name: &str) -> String {
-    let path = package().join("../peer/tests/logs").join(name);
+    let path = package().join("../crates/logs/data").join(name);
     path.to_str().expect("UTF-8").to_string()
 }
 

@@ -14,7 +14,7 @@ use peer::log::{answer_text, ask, check, play, Refusal};
 use peer::watch;
 use std::collections::BTreeSet;
 
-const WORKED: Folder = Folder("tests/logs");
+const WORKED: Folder = Folder("../crates/logs/data");
 
 /// The names of the texts that make logs, and of their files.
 fn names(ending: &str) -> BTreeSet<String> {
