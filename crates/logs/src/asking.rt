@@ -152,6 +152,9 @@ pub(crate) fn text_of(log: &[u8], label: u32, reading: u64, out: &mut [u8]) -> u
     let mut clocks = [0u64; 256];
     let mut places = [0u64; 256];
     let begun = begin_fill(log, label, 256);
+    if begun.answer != 0 {
+        return put_refusal(out, begun.answer);
+    }
     let from = begun.filling;
     fill_numbers(&mut clocks, &mut places, from, log);
     put_asked(out, log, from.count, &clocks, &places, label, reading)
