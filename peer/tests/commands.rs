@@ -17,9 +17,11 @@ fn printed(words: &[&str]) -> String {
     String::from_utf8(output.stdout).unwrap()
 }
 
+/// A file of the repository, in a folder named from this package's own on.
 fn stored(folder: &str, name: &str) -> String {
-    let tests = Path::new(env!("CARGO_MANIFEST_DIR")).join("tests");
-    let path = tests.join(folder).join(name);
+    let path = Path::new(env!("CARGO_MANIFEST_DIR"))
+        .join(folder)
+        .join(name);
     path.to_str().unwrap().to_string()
 }
 
@@ -29,14 +31,14 @@ fn own(name: &str) -> PathBuf {
 
 #[test]
 fn two_captures_compared() {
-    let first = stored("compares", "in_order.first");
-    let second = stored("compares", "in_order.second");
+    let first = stored("tests/compares", "in_order.first");
+    let second = stored("tests/compares", "in_order.second");
     let words = ["compare", &first, &second];
     assert_eq!(printed(&words), "0 11 12 29\nrest 8\n");
     let with_room = |room| printed(&["compare", &first, &second, room]);
     assert_eq!(with_room("3"), "0 11 12 29\nrest 8\n");
     assert_eq!(with_room("2"), "13\nrest 8\n");
-    let lines = fs::read_to_string(stored("compares", "in_order.lines")).unwrap();
+    let lines = fs::read_to_string(stored("tests/compares", "in_order.lines")).unwrap();
     assert_eq!(printed(&["compare", "--lines", &first, &second]), lines);
 }
 
@@ -53,24 +55,26 @@ fn words_that_name_no_two_captures() {
 
 #[test]
 fn logs_indexed_and_asked() {
-    let log = stored("logs", "kept.log");
-    let index = fs::read_to_string(stored("logs", "kept.index")).unwrap();
+    let log = stored("../crates/logs/data", "kept.log");
+    let index = fs::read_to_string(stored("../crates/logs/data", "kept.index")).unwrap();
     let built = printed(&["index", &log, "100"]);
     assert_eq!(format!("100 => {built}"), index);
     assert_eq!(printed(&["index", &log, "100", "2"]), "13\n");
     let asked = |reading| printed(&["ask", &log, "100", reading]);
     assert_eq!(asked("4000011"), "0 1 0 1 1 0 0 0 2\n");
     assert_eq!(asked("9223372036854775808"), "1\n");
-    let capture = stored("compares", "equal.first");
+    let capture = stored("tests/compares", "equal.first");
     assert_eq!(printed(&["ask", &capture, "100", "5"]), "19\n");
 }
 
 #[test]
 fn folders_of_logs_are_played() {
-    let folder = stored("logs", "");
+    let folder = stored("../crates/logs/data", "");
     assert!(printed(&["asks", &folder]).ends_with("\n0 of them otherwise\n"));
     // A folder without a log shows nothing.
-    assert!(!peer(&["asks", &stored("compares", "")]).status.success());
+    assert!(!peer(&["asks", &stored("tests/compares", "")])
+        .status
+        .success());
 }
 
 #[test]
@@ -86,10 +90,10 @@ fn made_pairs_and_logs() {
 
 #[test]
 fn a_capture_becomes_a_log_if_it_is_whole() {
-    let capture = stored("compares", "equal.first");
+    let capture = stored("tests/compares", "equal.first");
     let log = peer(&["log", &capture]).stdout;
     assert_eq!(log.len(), fs::read(&capture).unwrap().len() + 2 * 2);
-    let cut = stored("compares", "first_cut.first");
+    let cut = stored("tests/compares", "first_cut.first");
     let output = peer(&["log", &cut]);
     assert_eq!(output.status.code(), Some(2));
     let said = String::from_utf8_lossy(&output.stderr).into_owned();
