@@ -1,4 +1,6 @@
 // A file in constant memory: the octets of it that are at hand, in a lent buffer.
+ghost use mathlib.Core.Path.{_≡_};
+ghost use Rattle.compare.specs.Windows.{leftIn, seenIn, sum, furtherBy};
 
 // From one place of the buffer to another they are not passed yet; whether the file has no more
 // behind them, or a read of it failed; which octet of the file is the first of them, and how many
@@ -14,21 +16,28 @@ pub struct Window {
 }
 
 // A sum that stays at the greatest number.
-fn plus(a: usize, b: usize) -> usize {
+fn plus(a: usize, b: usize) -> usize
+    ensures { λ r. ⌜ r ≡ sum a b ⌝ }
+{
     if usize::MAX - a < b {
         return usize::MAX;
     }
     a + b
 }
 
-fn further(place: u64, n: usize) -> u64 {
+fn further(place: u64, n: usize) -> u64
+    ensures { λ r. ⌜ r ≡ sum place n ⌝ }
+{
     if u64::MAX - place < n as u64 {
         return u64::MAX;
     }
     place + n as u64
 }
 
-pub fn left(w: Window) -> usize {
+// How many octets are at hand.
+pub fn left(w: Window) -> usize
+    ensures { λ r. ⌜ r ≡ leftIn w ⌝ }
+{
     if w.to < w.from {
         return 0;
     }
@@ -52,21 +61,21 @@ pub fn opened(i: usize) -> Window {
 }
 
 // The octets at hand.
-pub fn seen(w: Window, buf: &[u8]) -> &[u8] {
+pub fn seen(w: Window, buf: &[u8]) -> &[u8]
+    ensures { λ r. ⌜ now r ≡ seenIn w (now (buf .entry)) ⌝ }
+{
     octets::part(buf, w.from, left(w))
 }
 
 // So many octets further, and so many records.
-pub fn passed(w: Window, n: usize, records: usize) -> Window {
-    Window {
-        file: w.file,
-        from: plus(w.from, n),
-        to: w.to,
-        ended: w.ended,
-        failed: w.failed,
-        place: further(w.place, n),
-        records: further(w.records, records),
-    }
+pub fn passed(w: Window, n: usize, records: usize) -> Window
+    ensures { λ r. ⌜ r ≡ furtherBy w n records ⌝ }
+{
+    let mut next = w;
+    next.from = plus(w.from, n);
+    next.place = further(w.place, n);
+    next.records = further(w.records, records);
+    next
 }
 
 // The octets at hand, moved to the buffer's front.
