@@ -10,3 +10,5 @@ pub mod Codes
 pub mod SameKeys
 pub mod Fitting
 pub mod Lists
+pub mod Counting
+pub mod TwoParties

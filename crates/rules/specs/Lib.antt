@@ -3,6 +3,7 @@ pub mod States
 pub mod Modes
 pub mod Figures
 pub mod Settings
+pub mod Parties
 pub mod Conditions
 pub mod Received
 pub mod Diagnostics

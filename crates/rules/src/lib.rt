@@ -5,6 +5,7 @@ mod diagnostics;
 mod keys;
 mod modes;
 mod moves;
+mod parties;
 mod ranges;
 mod times;
 
@@ -32,6 +33,8 @@ pub use moves::locked;
 pub use moves::report_number;
 pub use moves::state_of;
 pub use moves::stored_number;
+pub use parties::own_label;
+pub use parties::party_of;
 pub use ranges::settings_fit;
 pub use times::detection_time;
 pub use times::is_late;
@@ -80,6 +83,13 @@ pub struct Settings {
     pub followlink: u8,
     pub followlock: u8,
     pub mode: u8,
+}
+
+// A label, and the party whose call names it.
+#[repr(C)]
+pub struct Circuit {
+    pub label: u32,
+    pub party: u32,
 }
 
 // What tells one condition from another: type 1 AIS or 2 LKR, an IF_ID, and a Global_ID. `present` is 1

@@ -1,4 +1,4 @@
--- No two open records have one label, and no two have one discriminator: one law for both, over the number of the settings that is compared.
+-- No two open records have one label, and no two of one party have one discriminator: one law for both, over the number of the settings that is compared.
 -- What a call does to the row keeps the open records apart in it.
 -- Assumes nothing.
 use Prim.Native.Nat.{ℕ}
@@ -11,6 +11,7 @@ use lib.Dec.{eqb}
 use borrow.Author.Tests.{not-true}
 use Rattle.octets.proofs.Chain.{and-both}
 use Rattle.rules.specs.declared.Settings.{Settings}
+use Rattle.rules.specs.Parties.{ownDiscriminator}
 use Rattle.rules.specs.Lists.{any, once}
 use Rattle.rules.proofs.Bools.{or-left, or-right, refuted, true-false}
 use Rattle.rules.proofs.Lists.{Inserted, once-inserted, any-at, any-who, any-same, Alike, numbers-alike}
@@ -30,7 +31,7 @@ pub closed-one : (t : Table) (l u : ℕ) (r : Session) → find l (openOf t) ≡
 unfolding closed
 closed-one t l u r e = opens-closed l (t .occupied) (t .row) r e
 
--- settings without a rival: no open record has their label, none their discriminator
+-- settings without a rival: no open record has their label, none in their party their discriminator
 unrivalled : (p : Session → Bool) (g : Settings) → ((r : Session) → p r ≡ true → rivals g r ≡ true) → (rs : List Session)
     → any (rivals g) rs ≡ false → any p rs ≡ false
 unrivalled p g k rs e = refuted (any p rs) (λ z. let w = any-who p rs z in true-false (any-at (rivals g) (w .1) (k (w .0) (w .2))) e)
@@ -39,9 +40,9 @@ pub no-label : (g : Settings) (rs : List Session) → any (rivals g) rs ≡ fals
 no-label g rs e = unrivalled (hasLabel (g .label)) g (λ r q. or-left _ q) rs e
 
 pub no-discriminator : (g : Settings) (rs : List Session) → any (rivals g) rs ≡ false
-    → any (λ (r : Session). eqb (r .settings .discriminator) (g .discriminator)) rs ≡ false
+    → any (λ (r : Session). eqb (ownDiscriminator (r .settings)) (ownDiscriminator g)) rs ≡ false
 no-discriminator g rs e =
-    unrivalled (λ (r : Session). eqb (r .settings .discriminator) (g .discriminator)) g (λ r q. or-right (eqb (r .settings .label) (g .label)) q) rs e
+    unrivalled (λ (r : Session). eqb (ownDiscriminator (r .settings)) (ownDiscriminator g)) g (λ r q. or-right (eqb (r .settings .label) (g .label)) q) rs e
 
 -- two records have this number of their settings in common
 abbrev pub sameIn : (Settings → ℕ) → Session → Session → Bool

@@ -6,19 +6,22 @@ use mathlib.Core.Path.{_≡_, ap}
 use mathlib.Core.Bool.{Bool, true, false, not}
 use mathlib.Core.Logic.{_↔_}
 use lib.ListN.{length}
-use borrow.Author.Tests.{eqb-true, eqb-false, not-true, not-false, eq-eqb, ne-eqb}
+use borrow.Author.Tests.{eqb-true, eqb-false, not-true, not-false, eq-eqb, ne-eqb, leb-false}
+use Rattle.rules.specs.Parties.{ownMost}
 use Rattle.rules.specs.Lists.{any, once}
 use Rattle.rules.specs.Calls.{Call, numberOnly}
-use Rattle.rules.proofs.Bools.{split}
+use Rattle.rules.proofs.Bools.{split, refuted}
 use Rattle.rules.proofs.Failing.{one-fails, and-false}
+use Rattle.rules.proofs.TwoParties.{same-own}
 use Rattle.session.specs.declared.Session.{Session}
 use Rattle.session.specs.Soundness.{sessionSound}
 use Rattle.session.proofs.Unsound.{session-unsound}
 use Rattle.table.specs.Places.{occupiedAt}
 use Rattle.table.specs.Table.{Table, openOf, sameLabel, sameDiscriminator, inOrder, asked, answer, absent}
-use Rattle.table.specs.Disorder.{recordAt, OpenAt, Disorder, notOf64, recordUnsound, labelShared, discriminatorShared}
+use Rattle.table.specs.Disorder.{recordAt, OpenAt, Disorder, notOf64, recordUnsound, labelShared, discriminatorShared, tooMany}
 use Rattle.table.proofs.Numbers.{asked-most}
 use Rattle.table.proofs.OpenPlaces.{any-held, held-any, once-two, two-once}
+use Rattle.table.proofs.Order.{order-says}
 
 module _ (t : Table) where
   open-at : (i : ℕ) → i < length (t .row) → occupiedAt (t .occupied) i ≡ true → OpenAt t i
@@ -52,9 +55,16 @@ module _ (t : Table) where
   unfolding inOrder
   told =
       one-fails
+      (one-fails
+      (one-fails
       (one-fails (one-fails (λ e. notOf64 (eqb-false _ 64 e)) unsound-told)
       (two-told sameLabel (Disorder t) (λ i j b o u e. labelShared i j b o u (eqb-true _ _ e))))
-      (two-told sameDiscriminator (Disorder t) (λ i j b o u e. discriminatorShared i j b o u (eqb-true _ _ e)))
+      (two-told sameDiscriminator (Disorder t)
+      (λ i j b o u e.
+      let w = same-own (recordAt t i .settings) (recordAt t j .settings) .0 (eqb-true _ _ e) in
+      discriminatorShared i j b o u (w .0) (w .1))))
+      (λ e. tooMany 0 (leb-false _ ownMost e)))
+      (λ e. tooMany 1 (leb-false _ ownMost e))
 
   untold : Disorder t → inOrder t ≡ false
   unfolding inOrder
@@ -66,7 +76,9 @@ module _ (t : Table) where
       (ap not (session-unsound (recordAt t i) (t .clock) .1 w))) in
       simp (e, and-false)
   untold (labelShared i j b o u e) = simp (two-untold sameLabel i j b o u (eq-eqb _ _ e), and-false)
-  untold (discriminatorShared i j b o u e) = simp (two-untold sameDiscriminator i j b o u (eq-eqb _ _ e), and-false)
+  untold (discriminatorShared i j b o u p e) =
+      simp (two-untold sameDiscriminator i j b o u (eq-eqb _ _ (same-own (recordAt t i .settings) (recordAt t j .settings) .1 (p, e))), and-false)
+  untold (tooMany p h) = refuted (inOrder t) (λ z. omega (arith, order-says t z .each p, h))
 
   pub table-disorder : (inOrder t ≡ false) ↔ Disorder t
   table-disorder = (told, untold)

@@ -18,14 +18,14 @@ use Rattle.rules.specs.Times.{late}
 use Rattle.rules.specs.Settings.{settingsFit}
 use Rattle.rules.specs.Conditions.{keyOf}
 use Rattle.rules.specs.Received.{receivedAs}
+use Rattle.rules.specs.Parties.{partyOf, ownMost}
 use Rattle.rules.specs.Lists.{any}
 use Rattle.rules.specs.Calls.{Act, Close, Lock, Unlock, Receive, ReportOn, WriteCc, WriteCv, Call, Tick, Open, On}
 use Rattle.conditions.specs.Taking.{forgotten, freePlace, faultAnswer}
 use Rattle.session.specs.declared.Session.{Session}
 use Rattle.session.specs.Queries.{lockedIn, ccOctetsAt, cvOctetsAt}
 use Rattle.session.specs.Reception.{receivedAnswer}
-use Rattle.table.specs.Places.{occupiedOf}
-use Rattle.table.specs.Table.{Table, openOf, find, isFound, rivals, openAnswer, receiveAnswer, actAnswer, asked}
+use Rattle.table.specs.Table.{Table, openOf, openBy, find, isFound, rivals, openAnswer, receiveAnswer, actAnswer, asked}
 
 received-most : (r : Session) (reading : ℕ) (x : Received) → receivedAnswer r reading x ≤ 14
 unfolding faultAnswer
@@ -66,5 +66,5 @@ asked-most t (Tick u) = bar-most 14 (late (t .clock) u) (omega arith) (omega ari
 asked-most t (Open g u) =
     bar-most 14 (late (t .clock) u) (omega arith)
     (need-most 14 (settingsFit g) (omega arith)
-    (bar-most 14 (any (rivals g) (openOf t)) (omega arith) (bar-most 14 (eqb (occupiedOf 64 (t .occupied)) 64) (omega arith) (omega arith))))
+    (bar-most 14 (any (rivals g) (openOf t)) (omega arith) (bar-most 14 (eqb (openBy (partyOf (g .label)) t) ownMost) (omega arith) (omega arith))))
 asked-most t (On l a) = act-most (t .clock) (find l (openOf t)) l a

@@ -7,7 +7,7 @@ use mathlib.Core.Bool.{Bool, true, false, cond, not, _&&_, _||_}
 use mathlib.Core.Option.{Option, none, some}
 use mathlib.Core.List.{List, [], _∷_}
 use lib.ListN.{length, getD, set}
-use lib.Dec.{eqb}
+use lib.Dec.{eqb, leb}
 use Rattle.octets.specs.Choice.{need, bar, orElse}
 use Rattle.octets.specs.Writing.{writing}
 use Rattle.message.specs.Message.{messageRefusal, messageOf}
@@ -17,14 +17,15 @@ use Rattle.rules.specs.declared.Settings.{Settings}
 use Rattle.rules.specs.Times.{late}
 use Rattle.rules.specs.Settings.{settingsFit}
 use Rattle.rules.specs.Received.{receivedAs}
-use Rattle.rules.specs.Lists.{any, once}
+use Rattle.rules.specs.Parties.{partyOf, isOf, ownMost, ownDiscriminator}
+use Rattle.rules.specs.Lists.{any, only, once}
 use Rattle.rules.specs.Calls.{Act, Close, Lock, Unlock, Receive, ReportOn, WriteCc, WriteCv, Call, Tick, Open, On, Said, isAccepted, numberOnly, reporting, writes}
 use Rattle.session.specs.declared.Session.{Session}
 use Rattle.session.specs.Queries.{reportAt, ccOctetsAt, cvOctetsAt}
 use Rattle.session.specs.Steps.{newSession, lockedBy, unlockedAt, replySettled}
 use Rattle.session.specs.Reception.{receivedAnswer, receivedBy}
 use Rattle.session.specs.Soundness.{sessionSound}
-use Rattle.table.specs.Places.{lowestFree, occupiedOf, opens, hasLabel, placeOf}
+use Rattle.table.specs.Places.{lowestFree, opens, hasLabel, placeOf}
 
 pub record Table : Type 0 where
   pub row : List Session
@@ -37,17 +38,25 @@ openOf t = opens (t .occupied) (t .row)
 abbrev pub sameLabel : Session → Session → Bool
 sameLabel a b = eqb (a .settings .label) (b .settings .label)
 
+-- one party, and one discriminator
 abbrev pub sameDiscriminator : Session → Session → Bool
-sameDiscriminator a b = eqb (a .settings .discriminator) (b .settings .discriminator)
+sameDiscriminator a b = eqb (ownDiscriminator (a .settings)) (ownDiscriminator (b .settings))
+
+-- how many sessions of a party are open
+abbrev pub openBy : ℕ → Table → ℕ
+openBy p t = length (only (λ r. isOf p (r .settings .label)) (openOf t))
 
 -- every one passes
 abbrev pub every : (Session → Bool) → List Session → Bool
 every p rs = not (any (λ r. not (p r)) rs)
 
--- 26 is for a table that is not in order: 64 records, each open one sound at the clock, no two with one label or one discriminator
+-- 26 is for a table that is not in order: 64 records, each open one sound at the clock, no two with one label, no two of one party with one
+-- discriminator, and of either party no more than 32
 unfoldable pub inOrder : Table → Bool
 inOrder t =
-    eqb (length (t .row)) 64 && every (λ r. sessionSound r (t .clock)) (openOf t) && once sameLabel (openOf t) && once sameDiscriminator (openOf t)
+    eqb (length (t .row)) 64 && every (λ r. sessionSound r (t .clock)) (openOf t)
+    && once sameLabel (openOf t) && once sameDiscriminator (openOf t)
+    && leb (openBy 0 t) ownMost && leb (openBy 1 t) ownMost
 
 -- the open record with a label
 unfoldable pub find : ℕ → List Session → Option Session
@@ -58,16 +67,16 @@ abbrev pub isFound : Option Session → Bool
 isFound none = false
 isFound (some r) = true
 
--- a record with the label or the discriminator of these settings
+-- a record with the label of these settings, or with their discriminator in their party
 abbrev pub rivals : Settings → Session → Bool
-rivals g r = eqb (r .settings .label) (g .label) || eqb (r .settings .discriminator) (g .discriminator)
+rivals g r = eqb (r .settings .label) (g .label) || eqb (ownDiscriminator (r .settings)) (ownDiscriminator g)
 
 unfoldable pub openAnswer : Table → Settings → ℕ → ℕ
 openAnswer t g reading =
     bar (late (t .clock) reading) 1
     (need (settingsFit g) 10
     (bar (any (rivals g) (openOf t)) 11
-    (bar (eqb (occupiedOf 64 (t .occupied)) 64) 12 0)))
+    (bar (eqb (openBy (partyOf (g .label)) t) ownMost) 12 0)))
 
 abbrev pub receiveAnswer : Option Session → List ℕ → ℕ → ℕ
 receiveAnswer none m reading = 2
