@@ -1,4 +1,5 @@
--- The keys of the first pairs, one more at a time; the marks and the kept keys, which stand for every key that was there; and the first place of a label.
+-- The keys of the first pairs, one more at a time; the marks, which stand for every key that was there; the search among the pairs before; how many pairs
+-- are counted; and the first place of a label.
 -- Assumes nothing.
 use mathlib.Core.Path.{_≡_, refl, sym, ap, _∙_}
 use mathlib.Core.Bool.{Bool, true, false, not, _&&_, _||_}
@@ -11,10 +12,13 @@ use lib.ListN.{length, length-set, getD, set, take, drop, replicate, length-repl
 use lib.Seq.{take-suc, take-all, take-take, drop-cons, getD-set-same, getD-set-other}
 use lib.Dec.{eqb, leb}
 use borrow.Author.Tests.{eqb-true, eqb-false, eq-eqb, ne-eqb, leb-true, leb-false, lt-ltb, le-ltb}
-use Rattle.rules.specs.Lists.{any, once}
+use Rattle.rules.specs.Lists.{any, only, once}
 use Rattle.rules.proofs.Bools.{split, no-way, or-cases, or-left, or-right, refuted, true-false}
 use Rattle.rules.proofs.Lists.{Inserted, any-inserted, once-inserted, once-head, once-rest, once-cons, numbers-alike}
-use Rattle.scan.specs.Distinct.{keyIn, filled, keys, distinctIn, reachOf, reached, firstWith, placeIn}
+use Rattle.rules.proofs.Counting.{oneIf, count, count-inserted}
+use Rattle.rules.specs.Parties.{partyOf}
+use Rattle.rules.proofs.TwoParties.{party-most}
+use Rattle.scan.specs.Distinct.{ownKey, keyIn, keyStands, filled, keys, distinctIn, reachOf, reached, firstWith, placeIn}
 
 -- ---- lists of numbers
 
@@ -55,33 +59,6 @@ take-most xs count =
     (λ t. let h : length xs ≤ count = leb-true (length xs) count t in take-all (min count (length xs)) xs (omega arith) ∙ sym (take-all count xs h))
     (λ t. let h : count < length xs = leb-false (length xs) count t in
     let e : min count (length xs) ≡ count = omega arith in ap (λ (n : ℕ). take n xs) e)
-
--- an element that passes the test
-any-here : (p : ℕ → Bool) (xs : List ℕ) (i : ℕ) → i < length xs → p (getD xs i 0) ≡ true → any p xs ≡ true
-unfolding any
-any-here p [] i h e = absurd (omega arith)
-any-here p (x ∷ xs) zero h e = or-left (any p xs) e
-any-here p (x ∷ xs) (suc i) h e = or-right (p x) (any-here p xs i (omega arith) e)
-
-first-set : (v x r : Bool) → (v || r) || x ≡ v || (x || r)
-first-set true x r = refl
-first-set false true true = refl
-first-set false true false = refl
-first-set false false true = refl
-first-set false false false = refl
-
-later-set : (v x s g r : Bool) → s || g ≡ v || r → (x || s) || g ≡ v || (x || r)
-later-set true true s g r e = refl
-later-set false true s g r e = refl
-later-set true false s g r e = e
-later-set false false s g r e = e
-
--- one element put in the place of another
-any-set : (p : ℕ → Bool) (xs : List ℕ) (i v : ℕ) → i < length xs → any p (set xs i v) || p (getD xs i 0) ≡ p v || any p xs
-unfolding any
-any-set p [] i v h = absurd (omega arith)
-any-set p (x ∷ xs) zero v h = first-set (p v) (p x) (any p xs)
-any-set p (x ∷ xs) (suc i) v h = later-set (p v) (p x) (any p (set xs i v)) (p (getD xs i 0)) (any p xs) (any-set p xs i v (omega arith))
 
 -- ---- the keys of the first pairs
 
@@ -156,78 +133,34 @@ set-stays marks at j h e =
     (λ t. ap (λ (k : ℕ). getD (set marks at true) k false) (eqb-true j at t) ∙ getD-set-same marks at true false h)
     (λ f. getD-set-other marks at j true false (eqb-false j at f) ∙ e)
 
--- the keys so far are apart from each other and from 0; the marks of all are set; each is kept, and from place i on nothing is
-pub record Seen (ks : List ℕ) (i : ℕ) (marks : List Bool) (kept : List ℕ) : Type 0 where
+-- the keys so far are apart from each other and from 0, and the marks of all are set
+pub record Seen (ks : List ℕ) (marks : List Bool) : Type 0 where
   pub size : length marks ≡ 1024
-  pub room : length kept ≡ 64
   pub apart : once eqb (0 ∷ ks) ≡ true
   pub marked : (x : ℕ) → any (eqb x) (0 ∷ ks) ≡ true → getD marks (x % 1024) false ≡ true
-  pub holds : (x : ℕ) → any (eqb x) kept || eqb x 0 ≡ any (eqb x) (0 ∷ ks)
-  pub free : (j : ℕ) → i ≤ j → getD kept j 0 ≡ 0
 
--- of noughts, none but 0 is kept
-any-noughts : (n x : ℕ) → any (eqb x) (replicate n 0) || eqb x 0 ≡ eqb x 0 || false
-unfolding any
-any-noughts zero x = split (eqb x 0) (λ e. rw e) (λ e. rw e)
-any-noughts (suc n) x = let rest = any-noughts n x in split (eqb x 0) (λ e. rw e) (λ e. rw e (rw e at rest))
-
-nought-at : (n j : ℕ) → _≡_ {A = ℕ} (getD (replicate n 0) j 0) 0
-nought-at zero j = refl
-nought-at (suc n) zero = refl
-nought-at (suc n) (suc j) = nought-at n j
-
-pub seen-none : Seen [] 0 (set (replicate 1024 false) 0 true) (replicate 64 0)
+pub seen-none : Seen [] (set (replicate 1024 false) 0 true)
 unfolding once any
 seen-none = record {
   size = length-set (replicate 1024 false) 0 true ∙ length-replicate {A = Bool} 1024 false;
-  room = length-replicate {A = ℕ} 64 0;
   apart = refl;
   marked = λ x z. ⊎-elim
       (λ q. ap (λ (y : ℕ). getD (set (replicate 1024 false) 0 true) (y % 1024) false) (eqb-true x 0 q))
       (λ q. no-way q refl)
       (or-cases (eqb x 0) false z);
-  holds = any-noughts 64;
-  free = λ j _. nought-at 64 j;
 }
 
-module _ (ks : List ℕ) (i : ℕ) (marks : List Bool) (kept : List ℕ) (s : Seen ks i marks kept) where
+module _ (ks : List ℕ) (marks : List Bool) (s : Seen ks marks) where
   -- a key without its mark is a new one
   pub seen-new : (x : ℕ) → getD marks (x % 1024) false ≡ false → any (eqb x) (0 ∷ ks) ≡ false
   seen-new x f = refuted (any (eqb x) (0 ∷ ks)) (λ z. true-false (s .marked x z) f)
 
-  -- where a place is free, a search finds just the keys so far, and 0
-  pub found-kept : (x : ℕ) → i < 64 → any (eqb x) kept ≡ any (eqb x) (0 ∷ ks)
-  found-kept x h =
-      split (eqb x 0)
-      (λ e.
-      let here : any (eqb x) kept ≡ true = any-here (eqb x) kept i (omega (arith, s .room)) (rw (s .free i (omega arith)) e) in
-      here ∙ sym (sym (s .holds x) ∙ or-left (eqb x 0) here))
-      (λ e. or-none (any (eqb x) kept) e ∙ s .holds x)
-    where
-      or-none : (a : Bool) {b : Bool} → b ≡ false → a ≡ a || b
-      or-none true p = refl
-      or-none false p = sym p
-
-  -- a place where none was noted
-  pub seen-same : Seen ks (i + 1) marks kept
-  seen-same = record {
-    size = s .size;
-    room = s .room;
-    apart = s .apart;
-    marked = s .marked;
-    holds = s .holds;
-    free = λ j h. s .free j (omega (arith, h));
-  }
-
   -- one key more, which is a new one
-  pub seen-more : (x : ℕ) → i < 64 → any (eqb x) (0 ∷ ks) ≡ false → Seen (ks ++ (x ∷ [])) (i + 1) (set marks (x % 1024) true) (set kept i x)
-  seen-more x h new = record {
+  pub seen-more : (x : ℕ) → any (eqb x) (0 ∷ ks) ≡ false → Seen (ks ++ (x ∷ [])) (set marks (x % 1024) true)
+  seen-more x new = record {
     size = length-set marks (x % 1024) true ∙ s .size;
-    room = length-set kept i x ∙ s .room;
     apart = once-inserted eqb numbers-alike (at-end x (0 ∷ ks)) ∙ rw new (s .apart);
     marked = marked-more;
-    holds = holds-more;
-    free = λ j g. getD-set-other kept i j x 0 (λ e. omega (arith, g, e)) ∙ s .free j (omega (arith, g));
   }
     where
       at : x % 1024 < length marks
@@ -240,20 +173,74 @@ module _ (ks : List ℕ) (i : ℕ) (marks : List Bool) (kept : List ℕ) (s : Se
           (λ q. set-stays marks (x % 1024) (y % 1024) at (s .marked y q))
           (or-cases (eqb y x) (any (eqb y) (0 ∷ ks)) (sym (any-inserted (eqb y) (at-end x (0 ∷ ks))) ∙ e))
 
-      holds-more : (y : ℕ) → any (eqb y) (set kept i x) || eqb y 0 ≡ any (eqb y) (0 ∷ (ks ++ (x ∷ [])))
-      holds-more y =
-          ap (λ (n : ℕ). any (eqb y) (set kept i x) || eqb y n) (sym (s .free i (omega arith)))
-          ∙ any-set (eqb y) kept i x (omega (arith, s .room))
-          ∙ ap (λ (b : Bool). eqb y x || b) (found-kept y h)
-          ∙ sym (any-inserted (eqb y) (at-end x (0 ∷ ks)))
-
 -- the same as the code has it: by what is known of its numbers and of its lists
-pub seen-still : (ks ks′ : List ℕ) (i : ℕ) (marks marks′ : List Bool) (kept kept′ : List ℕ) → Seen ks i marks kept → ks′ ≡ ks → marks′ ≡ marks → kept′ ≡ kept → Seen ks′ (i + 1) marks′ kept′
-seen-still ks ks′ i marks marks′ kept kept′ s e f g = rw (e, f, g) (seen-same ks i marks kept s)
+pub seen-still : (ks ks′ : List ℕ) (marks marks′ : List Bool) → Seen ks marks → ks′ ≡ ks → marks′ ≡ marks → Seen ks′ marks′
+seen-still ks ks′ marks marks′ s e f = rw (e, f) s
 
-pub seen-next : (ks ks′ : List ℕ) (i : ℕ) (marks marks′ : List Bool) (kept kept′ : List ℕ) (x z : ℕ) → Seen ks i marks kept → i < 64 → any (eqb x) (0 ∷ ks) ≡ false
-    → z ≡ x → ks′ ≡ ks ++ (x ∷ []) → marks′ ≡ set marks (z % 1024) true → kept′ ≡ set kept i z → Seen ks′ (i + 1) marks′ kept′
-seen-next ks ks′ i marks marks′ kept kept′ x z s h new d e f g = rw (e, f, g, d) (seen-more ks i marks kept s x h new)
+pub seen-next : (ks ks′ : List ℕ) (marks marks′ : List Bool) (x z : ℕ) → Seen ks marks → any (eqb x) (0 ∷ ks) ≡ false
+    → z ≡ x → ks′ ≡ ks ++ (x ∷ []) → marks′ ≡ set marks (z % 1024) true → Seen ks′ marks′
+seen-next ks ks′ marks marks′ x z s new d e f = rw (e, f, d) (seen-more ks marks s x new)
+
+-- ---- the search among the pairs before
+
+-- a key among the pairs is among their keys, and 0 is one of these
+any-key : (labels : Bool) (x : ℕ) (ps : List ℕ) → eqb x 0 || any (λ p. eqb (keyIn labels p) x) ps ≡ any (eqb x) (0 ∷ map (keyIn labels) (filled ps))
+unfolding any filled
+any-key labels x [] = refl
+any-key labels x (p ∷ ps) =
+    let rest = any-key labels x ps in
+    split (eqb x 0)
+    (λ z. rw z)
+    (λ z.
+    let after = rw z at rest in
+    split (eqb p 0)
+    (λ e.
+    let none : eqb (keyIn labels p) x ≡ false =
+    ap (λ (n : ℕ). eqb (keyIn labels n) x) (eqb-true p 0 e) ∙ nought labels x (eqb-false x 0 z) in
+    rw (z, e, none) after)
+    (λ e. rw (z, e) (λ i. numbers-alike .back (keyIn labels p) x i || after i)))
+  where
+    nought : (labels : Bool) (x : ℕ) → (x ≡ 0 → ⊥) → eqb (keyIn labels 0) x ≡ false
+    nought true x d = ne-eqb 0 x (λ z. d (sym z))
+    nought false x d = ne-eqb 0 x (λ z. d (sym z))
+
+-- two discriminators within their parties are one where both are
+pub own-eqb : (l m d e : ℕ) → eqb (ownKey l d) (ownKey m e) ≡ eqb d e && eqb (partyOf l) (partyOf m)
+own-eqb l m d e =
+    split (eqb d e)
+    (λ a. rw a (split (eqb (partyOf l) (partyOf m))
+    (λ b. rw b (eq-eqb (ownKey l d) (ownKey m e) (omega (arith, eqb-true d e a, eqb-true (partyOf l) (partyOf m) b))))
+    (λ b. rw b (ne-eqb (ownKey l d) (ownKey m e) (λ z. eqb-false (partyOf l) (partyOf m) b (omega (arith, eqb-true d e a, z)))))))
+    (λ a. rw a (ne-eqb (ownKey l d) (ownKey m e) (λ z. eqb-false d e a (omega (arith, party-most l, party-most m, z)))))
+
+four : (a b c d : Bool) → (a || b) || (c || d) ≡ (a || c) || (b || d)
+four true b c d = refl
+four false true true d = refl
+four false true false d = refl
+four false false c d = refl
+
+any-either : (p q : ℕ → Bool) (xs : List ℕ) → any (λ x. p x || q x) xs ≡ any p xs || any q xs
+unfolding any
+any-either p q [] = refl
+any-either p q (x ∷ xs) = ap (λ (b : Bool). (p x || q x) || b) (any-either p q xs) ∙ four (p x) (q x) (any p xs) (any q xs)
+
+-- so it finds just the keys of the pairs so far, and 0
+pub stands-either : (pairs : List ℕ) (i q : ℕ)
+    → keyStands (take i pairs) q ≡ any (eqb (keyIn true q)) (0 ∷ keys true i pairs) || any (eqb (keyIn false q)) (0 ∷ keys false i pairs)
+unfolding keyStands
+stands-either pairs i q =
+    ap (λ (b : Bool). (eqb (keyIn true q) 0 || eqb (keyIn false q) 0) || b)
+    (any-either (λ p. eqb (keyIn true p) (keyIn true q)) (λ p. eqb (keyIn false p) (keyIn false q)) (take i pairs))
+    ∙ four (eqb (keyIn true q) 0) (eqb (keyIn false q) 0) _ _
+    ∙ (λ j. any-key true (keyIn true q) (take i pairs) j || any-key false (keyIn false q) (take i pairs) j)
+
+-- ---- how many are counted
+
+pub count-take-none : (q : ℕ → Bool) (xs : List ℕ) → _≡_ {A = ℕ} (count q (take 0 xs)) 0
+count-take-none q xs = unfold only in refl
+
+pub count-take-more : (q : ℕ → Bool) (xs : List ℕ) (i : ℕ) → i < length xs → count q (take (i + 1) xs) ≡ oneIf (q (getD xs i 0)) (count q (take i xs))
+count-take-more q xs i h = rw (add-one, take-suc xs i 0 h) (count-inserted q (at-end (getD xs i 0) (take i xs)))
 
 -- ---- the first place of a label
 

@@ -1,3 +1,4 @@
 pub mod KeyMarks
 pub mod RowPairs
+pub mod Parted
 pub mod Scanned

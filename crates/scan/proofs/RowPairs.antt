@@ -1,6 +1,6 @@
 -- The key pairs of a row, each at its record's place and 0 at a free one: what they say of open records that are all sound.
 -- Assumes nothing.
-use Prim.Native.Nat.{ℕ, zero, suc, _-_, _/_, _<_}
+use Prim.Native.Nat.{ℕ, zero, suc, _-_, _/_, _%_, _<_}
 use native.Mathlib.Omega.{arith}
 use mathlib.Core.Path.{_≡_, refl, sym, ap, _∙_}
 use mathlib.Core.Bool.{Bool, true, false, cond, not, _&&_, _||_}
@@ -10,16 +10,19 @@ use lib.Seq.{take-nil, drop-nil}
 use lib.Dec.{eqb, ltb}
 use lib.Count.{leadingZeros, leading-le}
 use borrow.Author.Tests.{eqb-true, ne-eqb, lt-ltb, le-ltb, ltb-true, ltb-false, eqb-false, not-false}
-use Rattle.rules.specs.Lists.{any, once}
+use Rattle.rules.specs.Parties.{isOf, ownDiscriminator}
+use Rattle.rules.specs.Lists.{any, only, once}
 use Rattle.rules.proofs.Bools.{split}
 use Rattle.rules.proofs.Fitting.{SettingsSay, settings-say}
+use Rattle.rules.proofs.Counting.{oneIf, count, count-cons}
 use Rattle.session.specs.declared.Session.{Session}
 use Rattle.session.specs.Soundness.{sessionSound}
 use Rattle.session.proofs.Sound.{sound-says}
 use Rattle.table.specs.Places.{firstOn, occupiedOf, opens, hasLabel, placeOf}
 use Rattle.table.specs.Table.{sameLabel, sameDiscriminator}
 use Rattle.table.proofs.Rows.{count-opens}
-use Rattle.scan.specs.Distinct.{keyPair, keyIn, filled, keys, distinctIn, reachOf, reached, firstWith, placeIn, rivalIn}
+use Rattle.table.proofs.Shares.{heldBy}
+use Rattle.scan.specs.Distinct.{keyPair, ownKey, keyIn, theirsOf, filled, keys, distinctIn, reachOf, reached, firstWith, placeIn, rivalIn}
 use Rattle.scan.specs.Passing.{apart}
 use Rattle.scan.proofs.KeyMarks.{neither}
 
@@ -28,7 +31,7 @@ abbrev pub pairOf : Session → ℕ
 pairOf r = keyPair (r .settings .label) (r .settings .discriminator)
 
 abbrev keyOf : Bool → Session → ℕ
-keyOf labels r = cond labels (r .settings .label) (r .settings .discriminator)
+keyOf labels r = cond labels (r .settings .label) (ownDiscriminator (r .settings))
 
 -- the pairs of a row with a set of occupied places
 unfoldable pub pairsOf : ℕ → List Session → List ℕ
@@ -182,11 +185,14 @@ module _ (clock : ℕ) where
 
     key-back : (labels : Bool) → keyIn labels (pairOf r) ≡ keyOf labels r
     key-back true = omega (arith, said .labelHigh)
-    key-back false = omega (arith, said .labelHigh)
+    key-back false =
+        let label : pairOf r % 4294967296 ≡ r .settings .label = omega (arith, said .labelHigh) in
+        let discriminator : pairOf r / 4294967296 ≡ r .settings .discriminator = omega (arith, said .labelHigh) in
+        λ i. ownKey (label i) (discriminator i)
 
     key-some : (labels : Bool) → eqb 0 (keyOf labels r) ≡ false
     key-some true = ne-eqb 0 (r .settings .label) (λ z. omega (arith, said .labelLow, z))
-    key-some false = ne-eqb 0 (r .settings .discriminator) (λ z. said .discriminator (sym z))
+    key-some false = ne-eqb 0 (ownDiscriminator (r .settings)) (λ z. said .discriminator (omega (arith, z)))
 
   keys-back : (labels : Bool) (rs : List Session) → any unsoundAt rs ≡ false → map (keyIn labels) (map pairOf rs) ≡ map (keyOf labels) rs
   keys-back labels [] e = refl
@@ -270,20 +276,20 @@ module _ (clock : ℕ) where
       (λ z. rw z (length-pairs set rows ∙ sym (ap (λ (l : ℕ). placeOf l set rows) (eqb-true label 0 z) ∙ place-none set rows e)))
       (λ z. rw z (with-reached set rows n label (eqb-false label 0 z) ∙ with-place label set rows (eqb-false label 0 z) e))
 
-  -- and a pair with a discriminator is that of its record
-  any-pairs : (discriminator set : ℕ) (rows : List Session) → (discriminator ≡ 0 → ⊥) → any unsoundAt (opens set rows) ≡ false
-      → any (λ p. eqb (keyIn false p) discriminator) (pairsOf set rows) ≡ any (λ r. eqb (r .settings .discriminator) discriminator) (opens set rows)
+  -- and a pair with a discriminator in a party is that of its record
+  any-pairs : (key set : ℕ) (rows : List Session) → (key ≡ 0 → ⊥) → any unsoundAt (opens set rows) ≡ false
+      → any (λ p. eqb (keyIn false p) key) (pairsOf set rows) ≡ any (λ r. eqb (ownDiscriminator (r .settings)) key) (opens set rows)
   unfolding pairsOf opens any
-  any-pairs discriminator set [] d e = refl
-  any-pairs discriminator set (r ∷ rs) d e =
+  any-pairs key set [] d e = refl
+  any-pairs key set (r ∷ rs) d e =
       split (firstOn set)
       (λ o.
       let f = sound-open set r rs o e in
-      let rest = any-pairs discriminator (set / 2) rs d (f .1) in
-      rw (o, key-back r (f .0) false) (ap (λ (b : Bool). eqb (r .settings .discriminator) discriminator || b) rest))
+      let rest = any-pairs key (set / 2) rs d (f .1) in
+      rw (o, key-back r (f .0) false) (ap (λ (b : Bool). eqb (ownDiscriminator (r .settings)) key || b) rest))
       (λ o.
-      let rest = any-pairs discriminator (set / 2) rs d (sound-free set r rs o e) in
-      rw (o, ne-eqb 0 discriminator (λ z. d (sym z))) rest)
+      let rest = any-pairs key (set / 2) rs d (sound-free set r rs o e) in
+      rw (o, ne-eqb 0 key (λ z. d (sym z))) rest)
 
   any-either : (p q : Session → Bool) (rs : List Session) → any p rs || any q rs ≡ any (λ r. p r || q r) rs
   unfolding any
@@ -297,14 +303,41 @@ module _ (clock : ℕ) where
       four false false c d = refl
 
   pub pairs-rival : (label discriminator set : ℕ) (rows : List Session) → length rows ≡ 64 → (discriminator ≡ 0 → ⊥) → any unsoundAt (opens set rows) ≡ false
-      → rivalIn (pairsOf set rows) set (placeOf label set rows) discriminator
-      ≡ any (λ r. eqb (r .settings .label) label || eqb (r .settings .discriminator) discriminator) (opens set rows)
+      → rivalIn (pairsOf set rows) set (placeOf label set rows) label discriminator
+      ≡ any (λ r. eqb (r .settings .label) label || eqb (ownDiscriminator (r .settings)) (ownKey label discriminator)) (opens set rows)
   unfolding rivalIn
   pairs-rival label discriminator set rows n d e =
-      let other : Session → Bool = λ r. eqb (r .settings .discriminator) discriminator in
-      rw (length-pairs set rows, place-any label set rows, ne-eqb discriminator 0 d, any-reached set rows n (λ p. eqb (keyIn false p) discriminator) (ne-eqb 0 discriminator (λ z. d (sym z))), any-pairs discriminator set rows d e)
+      let key = ownKey label discriminator in
+      let some : key ≡ 0 → ⊥ = λ z. d (omega (arith, z)) in
+      let other : Session → Bool = λ r. eqb (ownDiscriminator (r .settings)) key in
+      rw (length-pairs set rows, place-any label set rows, ne-eqb discriminator 0 d, any-reached set rows n (λ p. eqb (keyIn false p) key) (ne-eqb 0 key (λ z. some (sym z))), any-pairs key set rows some e)
       (or-cond (any (hasLabel label) (opens set rows)) (any other (opens set rows)) ∙ any-either (hasLabel label) other (opens set rows))
     where
       or-cond : (a b : Bool) → cond a true b ≡ a || b
       or-cond true b = refl
       or-cond false b = refl
+
+  -- the labels that are theirs are those of their records
+  count-filled : (q : ℕ → Bool) → q 0 ≡ false → (ps : List ℕ) → count q ps ≡ count q (filled ps)
+  unfolding filled
+  count-filled q z [] = refl
+  count-filled q z (p ∷ ps) =
+      split (eqb p 0)
+      (λ e. rw e (count-cons q p ps ∙ ap (λ (b : Bool). oneIf b (count q ps)) (ap q (eqb-true p 0 e) ∙ z) ∙ count-filled q z ps))
+      (λ e. rw e (count-cons q p ps ∙ ap (oneIf (q p)) (count-filled q z ps) ∙ sym (count-cons q p (filled ps))))
+
+  count-theirs : (rs : List Session) → any unsoundAt rs ≡ false → theirsOf (map pairOf rs) ≡ count (heldBy 1) rs
+  count-theirs [] e = unfold only in refl
+  count-theirs (r ∷ rs) e =
+      let f = sound-first r rs e in
+      count-cons (λ p. isOf 1 (keyIn true p)) (pairOf r) (map pairOf rs)
+      ∙ (λ i. oneIf (isOf 1 (key-back r (f .0) true i)) (count-theirs rs (f .1) i))
+      ∙ sym (count-cons (heldBy 1) r rs)
+
+  pub pairs-theirs : (set : ℕ) (rows : List Session) → length rows ≡ 64 → any unsoundAt (opens set rows) ≡ false
+      → theirsOf (reached set (pairsOf set rows)) ≡ count (heldBy 1) (opens set rows)
+  unfolding reachOf
+  pairs-theirs set rows n e =
+      count-filled (λ p. isOf 1 (keyIn true p)) refl (reached set (pairsOf set rows))
+      ∙ ap theirsOf (filled-open 64 set rows n e)
+      ∙ count-theirs (opens set rows) e

@@ -1,4 +1,5 @@
--- What the scan's summary means: whether the table is in order, the place of a label's record, and whether an open record has the label or the discriminator.
+-- What the scan's summary means: whether the table is in order, the place of a label's record, whether an open record has the label or the discriminator in its
+-- party, and whether that party has opened all that it may.
 -- Assumes nothing.
 use Prim.Native.Nat.{ℕ, suc, _/_, _%_}
 use native.Mathlib.Omega.{arith}
@@ -7,22 +8,24 @@ use mathlib.Core.Bool.{Bool, true, false, not, _&&_, _||_}
 use mathlib.Core.List.{List, [], _∷_, _++_}
 use lib.ListN.{length, length-append, set, replicate}
 use lib.Seq.{append-snoc, set-at}
-use lib.Dec.{eqb}
+use lib.Dec.{eqb, leb}
 use borrow.Author.Tests.{eqb-true, eq-eqb, ne-eqb, not-true}
-use Rattle.octets.proofs.Chain.{and-both}
+use Rattle.rules.specs.Parties.{partyOf, ownMost, ownDiscriminator}
 use Rattle.rules.specs.Lists.{any, once}
 use Rattle.rules.proofs.Bools.{split}
 use Rattle.session.specs.declared.Session.{Session}
 use Rattle.session.specs.Soundness.{sessionSound}
 use Rattle.table.specs.declared.Head.{Head}
 use Rattle.table.specs.Places.{firstOn, opens, placeOf}
-use Rattle.table.specs.Table.{Table, sameLabel, sameDiscriminator, every, inOrder}
+use Rattle.table.specs.Table.{Table, sameLabel, sameDiscriminator, openBy, every, inOrder}
+use Rattle.table.proofs.Order.{order-says}
 use Rattle.scan.specs.declared.Target.{Target}
 use Rattle.scan.specs.declared.Progress.{Progress}
 use Rattle.scan.specs.declared.Summary.{Summary}
-use Rattle.scan.specs.Distinct.{rivalIn}
+use Rattle.scan.specs.Distinct.{ownKey, rivalIn}
 use Rattle.scan.specs.Passing.{Pass, startOf, passed, failed, takenIn, noted, passOver, judgedOf, passOf, summaryOf}
 use Rattle.scan.proofs.RowPairs.{pairOf, pairsOf, unsoundAt, sound-open, sound-free, pairs-apart, pairs-place, pairs-rival}
+use Rattle.scan.proofs.Parted.{pairs-shared, pairs-full}
 
 -- one record on: a sound one at an occupied place, one that is not sound, and one at a free place
 abbrev atOpen : Pass → ℕ → Session → Pass
@@ -157,6 +160,10 @@ module _ (row : List Session) (head : Head) (target : Target) where
   abbrev openRecords : List Session
   openRecords = opens (head .occupied) row
 
+  -- no two labels alike, no two discriminators of one party, and of neither party more than 32
+  abbrev apartAndShared : Bool
+  apartAndShared = (once sameLabel openRecords && once sameDiscriminator openRecords) && (leb (openBy 0 table) ownMost && leb (openBy 1 table) ownMost)
+
   set-kept : ended .occupied ≡ head .occupied
   unfolding startOf
   set-kept = pass-keeps (λ (s : Progress). s .occupied) (λ s. unfold passed in refl) (λ s. unfold failed in refl) 0 begun row
@@ -187,8 +194,9 @@ module _ (row : List Session) (head : Head) (target : Target) where
     -- what the summary is then
     summary-found : summaryOf row head target ≡ record {
       place = placeOf (target .label) (head .occupied) row;
-      sound = once sameLabel openRecords && once sameDiscriminator openRecords;
-      rival = rivalIn (pairsOf (head .occupied) row) (head .occupied) (placeOf (target .label) (head .occupied) row) (target .discriminator);
+      sound = apartAndShared;
+      rival = rivalIn (pairsOf (head .occupied) row) (head .occupied) (placeOf (target .label) (head .occupied) row) (target .label) (target .discriminator);
+      full = eqb (openBy (partyOf (target .label)) table) ownMost;
     }
     unfolding summaryOf judgedOf passOf
     summary-found =
@@ -201,12 +209,19 @@ module _ (row : List Session) (head : Head) (target : Target) where
           discriminator-kept,
           pairs-noted,
           pairs-apart (head .clock) (head .occupied) row n all,
+          pairs-shared (head .clock) (head .occupied) row n all,
           pairs-place (head .clock) (target .label) (head .occupied) row n all,
+          pairs-full (head .clock) (head .occupied) row n all (target .label),
         )
 
   fault-said : eqb (ended .fault) 0 ≡ false → summaryOf row head target .sound ≡ false
   unfolding summaryOf judgedOf passOf
   fault-said e = rw e
+
+  grouped : (a b c d : Bool) → (a && b) && (c && d) ≡ ((a && b) && c) && d
+  grouped true true c d = refl
+  grouped true false c d = refl
+  grouped false b c d = refl
 
   -- the summary says sound exactly where the table is in order
   pub summary-sound : summaryOf row head target .sound ≡ inOrder table
@@ -216,32 +231,34 @@ module _ (row : List Session) (head : Head) (target : Target) where
       (λ e.
       split (any (unsoundAt (head .clock)) openRecords)
       (λ f. fault-said (sound-so-far ∙ rw (e, f)) ∙ rw (e, f))
-      (λ f. ap (λ (s : Summary). s .sound) (summary-found (eqb-true (length row) 64 e) f) ∙ rw (e, f)))
+      (λ f. ap (λ (s : Summary). s .sound) (summary-found (eqb-true (length row) 64 e) f) ∙ rw (e, f) (grouped (once sameLabel openRecords) (once sameDiscriminator openRecords) _ _)))
       (λ e. fault-said (sound-so-far ∙ rw e) ∙ rw e)
 
   -- what a table in order says
   module _ (o : inOrder table ≡ true) where
-    parts : (eqb (length row) 64 ≡ true) × (any (unsoundAt (head .clock)) openRecords ≡ false)
-    unfolding inOrder
-    parts =
-        let a = and-both _ _ (and-both _ _ (and-both _ _ o .0) .0) in
-        (a .0, not-true _ (a .1))
+    parts : (length row ≡ 64) × (any (unsoundAt (head .clock)) openRecords ≡ false)
+    parts = let said = order-says table o in (said .rows, not-true _ (said .sound))
 
     in-order : summaryOf row head target ≡ record {
       place = placeOf (target .label) (head .occupied) row;
-      sound = once sameLabel openRecords && once sameDiscriminator openRecords;
-      rival = rivalIn (pairsOf (head .occupied) row) (head .occupied) (placeOf (target .label) (head .occupied) row) (target .discriminator);
+      sound = apartAndShared;
+      rival = rivalIn (pairsOf (head .occupied) row) (head .occupied) (placeOf (target .label) (head .occupied) row) (target .label) (target .discriminator);
+      full = eqb (openBy (partyOf (target .label)) table) ownMost;
     }
-    in-order = summary-found (eqb-true (length row) 64 (parts .0)) (parts .1)
+    in-order = summary-found (parts .0) (parts .1)
 
   -- the place of the open record with the label; 64 where there is none
   pub summary-place : inOrder table ≡ true → summaryOf row head target .place ≡ placeOf (target .label) (head .occupied) row
   summary-place o = ap (λ (s : Summary). s .place) (in-order o)
 
-  -- an open record has the label or the discriminator; nothing is said of the mark where no discriminator is looked for
+  -- an open record has the label, or the discriminator in the label's party; nothing is said of the mark where no discriminator is looked for
   pub summary-rival : inOrder table ≡ true → (target .discriminator ≡ 0 → ⊥)
       → summaryOf row head target .rival
-      ≡ any (λ r. eqb (r .settings .label) (target .label) || eqb (r .settings .discriminator) (target .discriminator)) (opens (head .occupied) row)
+      ≡ any (λ r. eqb (r .settings .label) (target .label) || eqb (ownDiscriminator (r .settings)) (ownKey (target .label) (target .discriminator))) (opens (head .occupied) row)
   summary-rival o d =
       ap (λ (s : Summary). s .rival) (in-order o)
-      ∙ pairs-rival (head .clock) (target .label) (target .discriminator) (head .occupied) row (eqb-true (length row) 64 (parts o .0)) d (parts o .1)
+      ∙ pairs-rival (head .clock) (target .label) (target .discriminator) (head .occupied) row (parts o .0) d (parts o .1)
+
+  -- the label's party has opened all that it may
+  pub summary-full : inOrder table ≡ true → summaryOf row head target .full ≡ eqb (openBy (partyOf (target .label)) table) ownMost
+  summary-full o = ap (λ (s : Summary). s .full) (in-order o)

@@ -1,20 +1,38 @@
--- The keys of open records. A key pair has a record's label and discriminator in one number; each is noted at its record's place, and 0 stands where none was.
+-- The keys of open records: the label, and the discriminator within its party. A key pair has a record's label and discriminator in one number; each is noted
+-- at its record's place, and 0 stands where none was.
 -- Assumes nothing.
 use Prim.Native.Nat.{ℕ, suc, _+_, _-_, _*_, _/_, _%_}
-use mathlib.Core.Bool.{Bool, true, false, cond}
+use mathlib.Core.Bool.{Bool, true, false, cond, _||_}
 use mathlib.Core.List.{List, [], _∷_, map}
 use lib.ListN.{length, take}
 use lib.Dec.{eqb, ltb}
 use lib.Count.{leadingZeros}
-use Rattle.rules.specs.Lists.{any, once}
+use Rattle.rules.specs.Parties.{partyOf, isOf}
+use Rattle.rules.specs.Lists.{any, only, once}
 
 -- both are numbers of 32 bits
 abbrev pub keyPair : ℕ → ℕ → ℕ
 keyPair label discriminator = discriminator * 4294967296 + label
 
--- the label of a pair, or its discriminator
+-- a discriminator within the party of its label
+abbrev pub ownKey : ℕ → ℕ → ℕ
+ownKey label discriminator = discriminator * 2 + partyOf label
+
+-- the label of a pair, or its discriminator within its party
 abbrev pub keyIn : Bool → ℕ → ℕ
-keyIn labels pair = cond labels (pair % 4294967296) (pair / 4294967296)
+keyIn labels pair = cond labels (pair % 4294967296) (ownKey (pair % 4294967296) (pair / 4294967296))
+
+-- two pairs have a key in common
+abbrev pub alike : ℕ → ℕ → Bool
+alike q p = eqb (keyIn true p) (keyIn true q) || eqb (keyIn false p) (keyIn false q)
+
+-- a key of this pair is 0, or some pair of these has one of its keys
+unfoldable pub keyStands : List ℕ → ℕ → Bool
+keyStands pairs q = (eqb (keyIn true q) 0 || eqb (keyIn false q) 0) || any (alike q) pairs
+
+-- how many of these pairs have a label of theirs; a place where none was noted has not
+abbrev pub theirsOf : List ℕ → ℕ
+theirsOf pairs = length (only (λ p. isOf 1 (keyIn true p)) pairs)
 
 -- the pairs that were noted
 unfoldable pub filled : List ℕ → List ℕ
@@ -24,7 +42,7 @@ filled (p ∷ ps) = cond (eqb p 0) (filled ps) (p ∷ filled ps)
 abbrev pub keys : Bool → ℕ → List ℕ → List ℕ
 keys labels count pairs = map (keyIn labels) (filled (take count pairs))
 
--- the first pairs have no two labels alike, or no two discriminators; 0 is no key
+-- the first pairs have no two labels alike, or no two discriminators of one party; 0 is no key
 unfoldable pub distinctIn : Bool → ℕ → List ℕ → Bool
 distinctIn labels count pairs = once eqb (0 ∷ keys labels count pairs)
 
@@ -46,8 +64,8 @@ placeIn label occupied pairs =
     let place = firstWith label (reached occupied pairs) in
     cond (eqb label 0) (length pairs) (cond (ltb place (length (reached occupied pairs))) place (length pairs))
 
--- the label was found, or the discriminator is there; nobody asks for the discriminator 0
-unfoldable pub rivalIn : List ℕ → ℕ → ℕ → ℕ → Bool
-rivalIn pairs occupied place discriminator =
+-- the label was found, or the discriminator is there in the label's party; nobody asks for the discriminator 0
+unfoldable pub rivalIn : List ℕ → ℕ → ℕ → ℕ → ℕ → Bool
+rivalIn pairs occupied place label discriminator =
     cond (ltb place (length pairs)) true
-    (cond (eqb discriminator 0) false (any (λ p. eqb (keyIn false p) discriminator) (reached occupied pairs)))
+    (cond (eqb discriminator 0) false (any (λ p. eqb (keyIn false p) (ownKey label discriminator)) (reached occupied pairs)))

@@ -1,10 +1,11 @@
 -- The pass over a row, record by record, and what it comes to. This is what the code is proved to do; `proofs/Scanned.antt` says what it means.
 -- Assumes nothing.
-use Prim.Native.Nat.{ℕ, suc, _/_}
+use Prim.Native.Nat.{ℕ, suc, _-_, _/_}
 use mathlib.Core.Bool.{Bool, true, false, cond, _&&_, _||_}
 use mathlib.Core.List.{List, [], _∷_}
 use lib.ListN.{length, set, replicate}
-use lib.Dec.{eqb, ltb}
+use lib.Dec.{eqb, ltb, leb}
+use Rattle.rules.specs.Parties.{isOf, ownMost}
 use Rattle.session.specs.declared.Session.{Session}
 use Rattle.session.specs.Soundness.{sessionSound}
 use Rattle.table.specs.declared.Head.{Head}
@@ -12,7 +13,7 @@ use Rattle.table.specs.Places.{firstOn, occupiedOf}
 use Rattle.scan.specs.declared.Target.{Target}
 use Rattle.scan.specs.declared.Progress.{Progress}
 use Rattle.scan.specs.declared.Summary.{Summary}
-use Rattle.scan.specs.Distinct.{keyPair, distinctIn, reachOf, placeIn, rivalIn}
+use Rattle.scan.specs.Distinct.{keyPair, distinctIn, reachOf, reached, theirsOf, placeIn, rivalIn}
 
 -- before the first record: a row that is not of 64 is not in order, and none of its records is looked at
 unfoldable pub startOf : ℕ → Head → Target → Progress
@@ -72,17 +73,32 @@ unfoldable pub passOver : ℕ → Pass → List Session → Pass
 passOver at p [] = p
 passOver at p (r ∷ rs) = cond (eqb (p .progress .rest) 0) p (passOver (suc at) (taken p at r) rs)
 
--- no two labels and no two discriminators are alike; one record alone has nothing to be alike to
+-- no two labels and no two discriminators of one party are alike; one record alone has nothing to be alike to
 unfoldable pub apart : List ℕ → ℕ → Bool
 apart pairs occupied =
     ltb (occupiedOf 64 occupied) 2 || (distinctIn true (reachOf occupied) pairs && distinctIn false (reachOf occupied) pairs)
 
+-- how many are theirs. Where fewer than 32 are open nobody has 32, and 0 serves
+unfoldable pub theirsIn : List ℕ → ℕ → ℕ
+theirsIn pairs occupied = cond (ltb (occupiedOf 64 occupied) ownMost) 0 (theirsOf (reached occupied pairs))
+
+-- how many are the party's of a label
+abbrev pub ownCount : ℕ → ℕ → ℕ → ℕ
+ownCount label ours theirs = cond (isOf 0 label) ours theirs
+
+-- neither party has more than 32
+abbrev pub shared : ℕ → ℕ → Bool
+shared ours theirs = leb ours ownMost && leb theirs ownMost
+
 unfoldable pub judgedOf : List ℕ → Progress → Summary
 judgedOf pairs s =
+    let theirs = theirsIn pairs (s .occupied) in
+    let ours = occupiedOf 64 (s .occupied) - theirs in
     record {
       place = placeIn (s .label) (s .occupied) pairs;
-      sound = eqb (s .fault) 0 && apart pairs (s .occupied);
-      rival = rivalIn pairs (s .occupied) (placeIn (s .label) (s .occupied) pairs) (s .discriminator);
+      sound = eqb (s .fault) 0 && (apart pairs (s .occupied) && shared ours theirs);
+      rival = rivalIn pairs (s .occupied) (placeIn (s .label) (s .occupied) pairs) (s .label) (s .discriminator);
+      full = eqb (ownCount (s .label) ours theirs) ownMost;
     }
 
 -- the whole scan

@@ -1,13 +1,16 @@
-// The keys of the open records: no two labels and no two discriminators alike, with marks, so that
-// only a key whose mark is there is searched among those before it; the place of a label; whether a
-// label or a discriminator is there.
+// The keys of the open records: no two labels alike, and no two discriminators of one party, with
+// marks, so that only a pair with a key whose mark is there is compared with those before it; the place
+// of a label; whether a label or a discriminator is there; how many labels are theirs.
+use octets::both;
 use octets::either;
 use octets::least;
 ghost use mathlib.Core.Path.{_≡_};
 ghost use mathlib.Core.Bool.{true, false, _&&_};
 ghost use lib.Dec.{eqb};
+ghost use lib.ListN.{take};
+ghost use Prim.Native.Nat.{_/_};
 ghost use Rattle.rules.specs.Lists.{any};
-ghost use Rattle.scan.specs.Distinct.{keyPair, keyIn, reachOf, reached, distinctIn, placeIn, rivalIn};
+ghost use Rattle.scan.specs.Distinct.{keyPair, ownKey, keyIn, alike, keyStands, reachOf, reached, distinctIn, placeIn, rivalIn, theirsOf};
 
 pub fn key_pair(label: u32, discriminator: u32) -> u64
     ensures { λ r. ⌜ r ≡ keyPair label discriminator ⌝ }
@@ -22,9 +25,22 @@ fn label_in(pair: u64) -> u32
 }
 
 fn discriminator_in(pair: u64) -> u32
-    ensures { λ r. ⌜ r ≡ keyIn false pair ⌝ }
+    ensures { λ r. ⌜ r ≡ pair / 4294967296 ⌝ }
 {
     (pair / 4_294_967_296) as u32
+}
+
+// A discriminator within the party of its label, as one number.
+fn own_key(label: u32, discriminator: u32) -> u64
+    ensures { λ r. ⌜ r ≡ ownKey label discriminator ⌝ }
+{
+    discriminator as u64 * 2 + rules::party_of(label) as u64
+}
+
+fn own_in(pair: u64) -> u64
+    ensures { λ r. ⌜ r ≡ keyIn false pair ⌝ }
+{
+    own_key(label_in(pair), discriminator_in(pair))
 }
 
 // How many places there are up to the last occupied one.
@@ -34,15 +50,26 @@ fn reach(occupied: u64) -> usize
     (64 - u64::leading_zeros(occupied)) as usize
 }
 
-// A key stands among these. All of them are looked at: a search with no early end is done four at a
-// time.
-fn among(keys: &[u32], key: u32) -> bool
-    ensures { λ r. ⌜ r ≡ any (eqb key) (now (keys .entry)) ⌝ }
+// Two pairs have a key in common. By halves of 32 bits, which are compared four at a time.
+fn is_alike(q: u64, p: u64) -> bool
+    ensures { λ r. ⌜ r ≡ alike q p ⌝ }
 {
-    let mut found = false;
+    let label = label_in(p);
+    let own = rules::party_of(label) == rules::party_of(label_in(q));
+    let numbered = both(discriminator_in(p) == discriminator_in(q), own);
+    either(label == label_in(q), numbered)
+}
+
+// A key of a pair is 0, or some pair before this place has one of its keys. All of them are looked at:
+// a search with no early end is done four at a time.
+fn key_stands(pairs: &[u64], end: usize, pair: u64) -> bool
+    ensures { λ r. ⌜ r ≡ keyStands (take end (now (pairs .entry))) pair ⌝ }
+{
+    let n = least(end, pairs.len());
+    let mut found = either(label_in(pair) == 0, own_in(pair) == 0);
     let mut i: usize = 0;
-    while i < keys.len() {
-        if keys[i] == key {
+    while i < n {
+        if is_alike(pair, pairs[i]) {
             found = true;
         }
         i += 1;
@@ -50,40 +77,49 @@ fn among(keys: &[u32], key: u32) -> bool
     found
 }
 
-// No two labels alike, and no two discriminators: one pass over the noted pairs, with a mark for each
-// key modulo 1,024 and each key kept by its place. Where none is kept stands 0, which is no key; its
-// marks are set ahead of the pass.
+// No two labels alike, and no two discriminators of one party: one pass over the noted pairs, with a
+// mark for each key modulo 1,024. 0 is no key; its marks are set ahead of the pass.
 pub fn distinct(pairs: &[u64], occupied: u64) -> bool
     ensures { λ r. ⌜ r ≡ (distinctIn true (reachOf occupied) (now (pairs .entry)) && distinctIn false (reachOf occupied) (now (pairs .entry))) ⌝ }
 {
     let n = least(reach(occupied), pairs.len());
     let mut labels = [false; 1024];
     let mut others = [false; 1024];
-    let mut own = [0u32; 64];
-    let mut far = [0u32; 64];
     labels[0] = true;
     others[0] = true;
     let mut i: usize = 0;
     while i < n {
         let pair = pairs[i];
         if pair != 0 {
-            let l = label_in(pair);
-            let d = discriminator_in(pair);
-            let x = (l % 1024) as usize;
-            let y = (d % 1024) as usize;
+            let x = (label_in(pair) % 1024) as usize;
+            let y = (own_in(pair) % 1024) as usize;
             if either(labels[x], others[y]) {
-                if either(among(&own, l), among(&far, d)) {
+                if key_stands(pairs, i, pair) {
                     return false;
                 }
             }
             labels[x] = true;
             others[y] = true;
-            own[i] = l;
-            far[i] = d;
         }
         i += 1;
     }
     true
+}
+
+// How many labels are theirs.
+pub fn theirs_in(pairs: &[u64], occupied: u64) -> u32
+    ensures { λ r. ⌜ r ≡ theirsOf (reached occupied (now (pairs .entry))) ⌝ }
+{
+    let n = least(reach(occupied), pairs.len());
+    let mut theirs: u32 = 0;
+    let mut i: usize = 0;
+    while i < n {
+        if rules::party_of(label_in(pairs[i])) == 1 {
+            theirs += 1;
+        }
+        i += 1;
+    }
+    theirs
 }
 
 // The first place with a label; behind them all where there is none. 0 is no label.
@@ -104,14 +140,14 @@ pub fn place_in(pairs: &[u64], occupied: u64, label: u32) -> usize
     pairs.len()
 }
 
-fn has_discriminator(pairs: &[u64], occupied: u64, discriminator: u32) -> bool
-    ensures { λ r. ⌜ r ≡ any (λ p. eqb (keyIn false p) discriminator) (reached occupied (now (pairs .entry))) ⌝ }
+fn has_key(pairs: &[u64], occupied: u64, key: u64) -> bool
+    ensures { λ r. ⌜ r ≡ any (λ p. eqb (keyIn false p) key) (reached occupied (now (pairs .entry))) ⌝ }
 {
     let n = least(reach(occupied), pairs.len());
     let mut found = false;
     let mut i: usize = 0;
     while i < n {
-        if discriminator_in(pairs[i]) == discriminator {
+        if own_in(pairs[i]) == key {
             found = true;
         }
         i += 1;
@@ -119,9 +155,15 @@ fn has_discriminator(pairs: &[u64], occupied: u64, discriminator: u32) -> bool
     found
 }
 
-// The label was found, or the discriminator is there. Only an opening asks for one.
-pub fn rival_in(pairs: &[u64], occupied: u64, place: usize, discriminator: u32) -> bool
-    ensures { λ r. ⌜ r ≡ rivalIn (now (pairs .entry)) occupied place discriminator ⌝ }
+// The label was found, or the discriminator is there in its party. Only an opening asks for one.
+pub fn rival_in(
+    pairs: &[u64],
+    occupied: u64,
+    place: usize,
+    label: u32,
+    discriminator: u32,
+) -> bool
+    ensures { λ r. ⌜ r ≡ rivalIn (now (pairs .entry)) occupied place label discriminator ⌝ }
 {
     if place < pairs.len() {
         return true;
@@ -129,5 +171,5 @@ pub fn rival_in(pairs: &[u64], occupied: u64, place: usize, discriminator: u32) 
     if discriminator == 0 {
         return false;
     }
-    has_discriminator(pairs, occupied, discriminator)
+    has_key(pairs, occupied, own_key(label, discriminator))
 }

@@ -27,9 +27,11 @@ pub struct Progress {
     pub discriminator: u32,
 }
 
-// What the scan comes to. `sound` is false where 26 is due.
+// What the scan comes to. `sound` is false where 26 is due; `full` is true where the party of the label
+// has opened all that it may.
 pub struct Summary {
     pub place: usize,
     pub sound: bool,
     pub rival: bool,
+    pub full: bool,
 }

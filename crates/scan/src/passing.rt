@@ -6,6 +6,7 @@ use crate::keys::distinct;
 use crate::keys::key_pair;
 use crate::keys::place_in;
 use crate::keys::rival_in;
+use crate::keys::theirs_in;
 use octets::both;
 use session::Session;
 use table::Head;
@@ -13,7 +14,9 @@ ghost use mathlib.Core.Path.{_≡_};
 ghost use mathlib.Core.Bool.{not, _&&_, cond};
 ghost use lib.Dec.{eqb, ltb};
 ghost use lib.ListN.{length, set};
-ghost use Rattle.scan.specs.Passing.{startOf, passed, failed, takenIn, noted, apart, judgedOf};
+ghost use Prim.Native.Nat.{_-_};
+ghost use Rattle.table.specs.Places.{occupiedOf};
+ghost use Rattle.scan.specs.Passing.{startOf, passed, failed, takenIn, noted, apart, theirsIn, ownCount, judgedOf};
 
 // Before the first record; a row that is not of 64 is unsound, and nothing in it is looked at.
 pub fn start(records: usize, head: Head, target: Target) -> Progress
@@ -94,18 +97,54 @@ fn apart_by(pairs: &[u64], occupied: u64) -> bool
     distinct(pairs, occupied)
 }
 
+// How many of the open sessions are theirs. Where fewer than 32 are open nobody has 32, and none is
+// counted.
+fn theirs_by(pairs: &[u64], occupied: u64) -> u32
+    ensures { λ r. ⌜ r ≡ theirsIn (now (pairs .entry)) occupied ⌝ }
+{
+    if table::open_count(occupied) < 32 {
+        return 0;
+    }
+    theirs_in(pairs, occupied)
+}
+
+fn ours_by(occupied: u64, theirs: u32) -> u32
+    ensures { λ r. ⌜ r ≡ occupiedOf 64 occupied - theirs ⌝ }
+{
+    let open = table::open_count(occupied);
+    if open < theirs {
+        return 0;
+    }
+    open - theirs
+}
+
+// The party of the label has opened all that it may.
+fn is_full(label: u32, ours: u32, theirs: u32) -> bool
+    ensures { λ r. ⌜ r ≡ eqb (ownCount label ours theirs) 32 ⌝ }
+{
+    if rules::party_of(label) == 0 {
+        return ours == 32;
+    }
+    theirs == 32
+}
+
 // What the scan comes to. A fault is asked for last: asked first, every test of the pass that can fail
 // would carry the whole answer with it.
 pub fn judged(pairs: &[u64], s: Progress) -> Summary
     ensures { λ r. ⌜ r ≡ judgedOf (now (pairs .entry)) s ⌝ }
 {
     let apart = apart_by(pairs, s.occupied);
+    let theirs = theirs_by(pairs, s.occupied);
+    let ours = ours_by(s.occupied, theirs);
+    let shared = both(ours <= 32, theirs <= 32);
     let place = place_in(pairs, s.occupied, s.label);
-    let rival = rival_in(pairs, s.occupied, place, s.discriminator);
-    let sound = both(s.fault == 0, apart);
+    let rival = rival_in(pairs, s.occupied, place, s.label, s.discriminator);
+    let full = is_full(s.label, ours, theirs);
+    let sound = both(s.fault == 0, both(apart, shared));
     Summary {
         place: place,
         sound: sound,
         rival: rival,
+        full: full,
     }
 }
