@@ -1,5 +1,5 @@
--- A call on a row of which it is known whether it is in order, and where it is the place of the label or a rival, is the table's step: what is said, and the table afterwards. For
--- every row, clock, set and call whatever, however place and rival were come by.
+-- A call on a row of which it is known whether it is in order, and where it is the place of the label, a rival and a full share, is the table's step: what is said, and the table
+-- afterwards. For every row, clock, set and call whatever, however these were come by.
 -- Assumes nothing.
 use Prim.Native.Nat.{ℕ, zero, suc, _+_, _-_, _^_, _/_, _<_, _≤_}
 use native.Mathlib.Omega.{arith}
@@ -19,18 +19,22 @@ use Rattle.bfd.specs.Octets.{packetOctets}
 use Rattle.rules.specs.declared.Settings.{Settings}
 use Rattle.rules.specs.Times.{late}
 use Rattle.rules.specs.Settings.{settingsFit}
+use Rattle.rules.specs.Parties.{partyOf, ownMost}
 use Rattle.rules.specs.Lists.{any}
 use Rattle.rules.specs.Calls.{Act, Close, Lock, Unlock, Receive, ReportOn, WriteCc, WriteCv, Call, Tick, Open, On, Said, isAccepted, numberOnly, noReport, reporting, writes}
 use Rattle.rules.proofs.Bools.{split, no-way, forced}
+use Rattle.rules.proofs.TwoParties.{party-most}
 use Rattle.session.specs.declared.Session.{Session}
 use Rattle.session.specs.Queries.{reportAt, ccOctetsAt, cvOctetsAt, cvSizeOf, cvWholeAt}
 use Rattle.session.proofs.Written.{cv-size, cv-front}
 use Rattle.session.specs.Steps.{newSession, lockedBy, unlockedAt, replySettled}
 use Rattle.table.specs.declared.Head.{Head}
-use Rattle.table.specs.Places.{firstOn, occupiedAt, withPlace, withoutPlace, lowestFree, occupiedOf, opens, hasLabel, placeOf}
-use Rattle.table.specs.Table.{Table, inOrder, find, isFound, absent, rivals, openAnswer, asked, answer, actAnswer, done, actDone, altered, added, closed, next}
+use Rattle.table.specs.Places.{firstOn, occupiedAt, withPlace, withoutPlace, lowestFree, opens, hasLabel, placeOf}
+use Rattle.table.specs.Table.{Table, openBy, inOrder, find, isFound, absent, rivals, openAnswer, asked, answer, actAnswer, done, actDone, altered, added, closed, next}
 use Rattle.table.proofs.OccupiedSet.{at-zero, at-suc, with-free, without-taken, lowest-is-free}
 use Rattle.table.proofs.Rows.{free-exists}
+use Rattle.table.proofs.Shares.{place-left}
+use Rattle.table.proofs.Order.{order-says}
 use Rattle.scan.specs.declared.Summary.{Summary}
 use Rattle.step.specs.declared.Request.{Request}
 use Rattle.step.specs.declared.Opening.{Opening}
@@ -276,38 +280,45 @@ module _ (row : List Session) (head : Head) (long : length row < 2 ^ 64) (s : Su
   open-refused z = (rw (z, kept row head long (newSession (g .settings) (g .reading))), rw z)
 
   -- the lowest free place is free
-  new-place : bar (late (head .clock) (g .reading)) 1 (need (settingsFit (g .settings)) 10 (bar (s .rival) 11 (bar (eqb (occupiedOf 64 (head .occupied)) 64) 12 0))) ≡ 0
+  new-place : lowestFree 64 (head .occupied) < 64
       → tableOf (set row (lowestFree 64 (head .occupied)) (newSession (g .settings) (g .reading))) (openedHead head (g .reading)) ≡ added (tableOf row head) (g .settings) (g .reading)
   unfolding added
-  new-place e =
-      let fits = bar-passed (late (head .clock) (g .reading)) 0 _ e .1 in
-      let apart = need-passed (settingsFit (g .settings)) 9 _ fits .1 in
-      let free = bar-passed (eqb (occupiedOf 64 (head .occupied)) 64) 11 0 (bar-passed (s .rival) 10 _ apart .1) .0 in
-      let below : lowestFree 64 (head .occupied) < 64 = free-exists 64 (head .occupied) (eqb-false (occupiedOf 64 (head .occupied)) 64 free) in
-      rw (← with-free (head .occupied) (lowestFree 64 (head .occupied)) below (lowest-is-free 64 (head .occupied) below))
+  new-place below = rw (← with-free (head .occupied) (lowestFree 64 (head .occupied)) below (lowest-is-free 64 (head .occupied) below))
 
   opened-where : openingAnswer s head g ≡ 0 → tableOf (x .row) (x .outcome .head) ≡ tableOf (set row (lowestFree 64 (head .occupied)) (newSession (g .settings) (g .reading))) (openedHead head (g .reading))
   unfolding openAt openingOf
   opened-where z = rw z
 
-  open-left : openingAnswer s head g ≡ 0 → tableOf (x .row) (x .outcome .head) ≡ added (tableOf row head) (g .settings) (g .reading)
+  -- and there is one for a party that has not opened 32
+  place-there : inOrder (tableOf row head) ≡ true → s .full ≡ eqb (openBy (partyOf (g .settings .label)) (tableOf row head)) ownMost
+      → bar (late (head .clock) (g .reading)) 1 (need (settingsFit (g .settings)) 10 (bar (s .rival) 11 (bar (s .full) 12 0))) ≡ 0 → lowestFree 64 (head .occupied) < 64
+  place-there k full e =
+      let label = g .settings .label in
+      let order = order-says (tableOf row head) k in
+      let fits = bar-passed (late (head .clock) (g .reading)) 0 _ e .1 in
+      let apart = need-passed (settingsFit (g .settings)) 9 _ fits .1 in
+      let free = bar-passed (s .full) 11 0 (bar-passed (s .rival) 10 _ apart .1) .0 in
+      free-exists 64 (head .occupied)
+      (place-left (tableOf row head) (order .rows) (order .each) (partyOf label) (party-most label) (eqb-false (openBy (partyOf label) (tableOf row head)) ownMost (sym full ∙ free)))
+
+  open-left : inOrder (tableOf row head) ≡ true → s .full ≡ eqb (openBy (partyOf (g .settings .label)) (tableOf row head)) ownMost
+      → openingAnswer s head g ≡ 0 → tableOf (x .row) (x .outcome .head) ≡ added (tableOf row head) (g .settings) (g .reading)
   unfolding openingAnswer
-  open-left z = opened-where z ∙ new-place (need-passed (s .sound) 25 _ z .1)
+  open-left k full z = opened-where z ∙ new-place (place-there k full (need-passed (s .sound) 25 _ z .1))
 
   -- a rival need be known only where the settings fit: 10 is before 11
-  pub fit-steps : (inOrder (tableOf row head) ≡ true → settingsFit (g .settings) ≡ true → s .rival ≡ any (rivals (g .settings)) (opens (head .occupied) row)) → Steps row head c x
+  pub open-steps : (inOrder (tableOf row head) ≡ true → settingsFit (g .settings) ≡ true → s .rival ≡ any (rivals (g .settings)) (opens (head .occupied) row))
+      → (inOrder (tableOf row head) ≡ true → s .full ≡ eqb (openBy (partyOf (g .settings .label)) (tableOf row head)) ownMost) → Steps row head c x
   unfolding asked done openAnswer openingAnswer
-  fit-steps rival =
+  open-steps rival full =
       split (inOrder (tableOf row head))
       (λ k.
-      let n : x .outcome .answer ≡ openAnswer (tableOf row head) (g .settings) (g .reading) = open-number ∙ split (settingsFit (g .settings)) (λ f. rw (o, k, f, rival k f)) (λ f. rw (o, k, f)) in
+      let n : x .outcome .answer ≡ openAnswer (tableOf row head) (g .settings) (g .reading) =
+      open-number ∙ split (settingsFit (g .settings)) (λ f. rw (o, k, f, rival k f, full k)) (λ f. rw (o, k, f)) in
       steps-sound row head c x k (ap (numberOnly c) n) (sym n)
-      (λ z. open-left (sym open-number ∙ z))
+      (λ z. open-left k (full k) (sym open-number ∙ z))
       (λ z. let w = open-refused (ap (λ (m : ℕ). eqb m 0) (sym open-number) ∙ z) in λ i. tableOf (w .0 i) (w .1 i)))
       (λ k.
       let n : openingAnswer s head g ≡ 26 = rw (o, k) in
       let w = open-refused (rw n) in
       steps-26 row head c x k (open-number ∙ n) (w .0) (w .1))
-
-  pub open-steps : (inOrder (tableOf row head) ≡ true → s .rival ≡ any (rivals (g .settings)) (opens (head .occupied) row)) → Steps row head c x
-  open-steps rival = fit-steps (λ k f. rival k)

@@ -1,4 +1,4 @@
--- The decision and the step, from what is known of the row (in order or not, the place of the label, a rival), the head, the call and the one record that it concerns. This is
+-- The decision and the step, from what is known of the row (in order or not, the place of the label, a rival, a full share), the head, the call and the one record that it concerns. This is
 -- what the code is proved to do; `proofs/TableStep.antt` says that it is the table's step.
 -- Assumes nothing.
 use Prim.Native.Nat.{ℕ}
@@ -15,7 +15,7 @@ use Rattle.session.specs.declared.Session.{Session}
 use Rattle.session.specs.Queries.{reportAt, ccOctetsAt, cvSizeOf, cvWholeAt}
 use Rattle.session.specs.Steps.{newSession, lockedBy, unlockedAt, replySettled}
 use Rattle.table.specs.declared.Head.{Head}
-use Rattle.table.specs.Places.{lowestFree, occupiedOf, withPlace, withoutPlace}
+use Rattle.table.specs.Places.{lowestFree, withPlace, withoutPlace}
 use Rattle.table.specs.Table.{Table, absent}
 use Rattle.scan.specs.declared.Target.{Target}
 use Rattle.scan.specs.declared.Summary.{Summary}
@@ -134,7 +134,7 @@ openingAnswer s head g =
     (bar (late (head .clock) (g .reading)) 1
     (need (settingsFit (g .settings)) 10
     (bar (s .rival) 11
-    (bar (eqb (occupiedOf 64 (head .occupied)) 64) 12 0))))
+    (bar (s .full) 12 0))))
 
 abbrev pub openedHead : Head → ℕ → Head
 openedHead head reading = record { clock = reading; occupied = withPlace (head .occupied) (lowestFree 64 (head .occupied)) }

@@ -29,9 +29,8 @@ fn opening_answer(s: Summary, head: Head, g: Opening) -> u32
     ensures { λ r. ⌜ r ≡ openingAnswer s head g ⌝ }
 {
     let settings = g.settings;
-    let full = table::open_count(head.occupied) == 64;
     let fits = rules::settings_fit(settings);
-    let room = refuse_if(s.rival, 11, refuse_if(full, 12, 0));
+    let room = refuse_if(s.rival, 11, refuse_if(s.full, 12, 0));
     let late = rules::is_late(head.clock, g.reading);
     need(s.sound, 26, refuse_if(late, 1, need(fits, 10, room)))
 }

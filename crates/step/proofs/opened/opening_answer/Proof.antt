@@ -17,5 +17,4 @@ opening-answer-spec =
     (λ c κs. search needs)
     (λ c κs. search needs)
     (λ c κs. search needs)
-    (λ c κs. search needs)
-    (λ c. rw (c .need2 .ensures, c .before .refuse-if3 .ensures, c .before .before .need .ensures, c .before .before .before .is-late .ensures, c .before .before .before .before .refuse-if2 .ensures, c .before .before .before .before .before .refuse-if .ensures, c .before .before .before .before .before .before .settings-fit .ensures, c .before .before .before .before .before .before .before .open-count .ensures)))
+    (λ c. rw (c .need2 .ensures, c .before .refuse-if3 .ensures, c .before .before .need .ensures, c .before .before .before .is-late .ensures, c .before .before .before .before .refuse-if2 .ensures, c .before .before .before .before .before .refuse-if .ensures, c .before .before .before .before .before .before .settings-fit .ensures)))
