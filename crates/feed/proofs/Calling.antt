@@ -12,33 +12,35 @@ use borrow.Author.Tests.{eqb-true, eqb-false, lt-ltb, le-ltb, ltb-false}
 use Rattle.octets.proofs.Chain.{need-passed, bar-passed}
 use Rattle.cv.proofs.Forms.{length-within}
 use Rattle.rules.specs.Calls.{Act, Close, Lock, Unlock, Receive, ReportOn, WriteCc, WriteCv, Call, Tick, Open, On, Said, writes, numberOnly}
-use Rattle.rules.specs.Lists.{any}
 use Rattle.rules.proofs.Bools.{split, no-way}
+use Rattle.rules.proofs.Fitting.{settings-say}
 use Rattle.session.specs.declared.Session.{Session}
 use Rattle.session.specs.Queries.{ccOctetsAt, cvSizeOf, cvWholeAt}
 use Rattle.session.proofs.Written.{cv-room}
 use Rattle.table.specs.declared.Head.{Head}
-use Rattle.table.specs.Places.{opens, placeOf, firstHit}
+use Rattle.table.specs.Places.{placeOf}
 use Rattle.table.specs.Hints.{Placed, placedBy}
-use Rattle.table.specs.Table.{Table, inOrder, absent, rivals, answer, next}
-use Rattle.table.proofs.Found.{first-rival, known-place}
+use Rattle.table.specs.Table.{Table, inOrder, absent, answer, next}
+use Rattle.table.proofs.Found.{known-place}
 use Rattle.scan.specs.declared.Summary.{Summary}
+use Rattle.scan.specs.Passing.{summaryOf}
+use Rattle.scan.proofs.Scanned.{summary-rival, summary-full}
 use Rattle.step.specs.declared.Request.{Request}
 use Rattle.step.specs.declared.Opening.{Opening}
 use Rattle.step.specs.declared.Arrival.{Arrival}
 use Rattle.step.specs.declared.Outcome.{Outcome}
 use Rattle.step.specs.Requests.{isRequest, requestOn, requestOf}
-use Rattle.step.specs.Stepping.{tableOf, isPlace, answerOf, Obeyed, stepOf, toldBy, openingOf, obeyAt, openAt}
+use Rattle.step.specs.Stepping.{tableOf, isPlace, answerOf, Obeyed, stepOf, toldBy, openingTarget, openingOf, obeyAt, openAt}
 use Rattle.walks.specs.AtPlace.{atPlace}
 use Rattle.step.specs.Arriving.{messageIn, receiveAt, metAt}
 use Rattle.step.specs.Saying.{saidOf, Steps}
-use Rattle.step.proofs.TableStep.{of-64, cc-length, tick-steps, act-steps, open-steps}
+use Rattle.step.proofs.TableStep.{cc-length, tick-steps, act-steps, open-steps}
 use Rattle.step.proofs.Arriving.{receive-steps}
 use Rattle.session.specs.Live.{isFault}
 use Rattle.capture.specs.declared.Record.{Record}
 use Rattle.capture.specs.Records.{bodyIn, settingsIn, actOf, callOf}
 use Rattle.feed.specs.declared.Fed.{Fed}
-use Rattle.feed.specs.Calling.{bodyAt, openingIn, rivalSeen, soughtIn, seenAt, bodyFrom, arrivalIn, requestIn, Whole, Calls}
+use Rattle.feed.specs.Calling.{bodyAt, openingIn, seenWith, soughtIn, seenAt, bodyFrom, arrivalIn, requestIn, Whole, Calls}
 
 -- ---- what can be told has its length
 told-whole : (q : Request) (r : Session) (clock : ℕ) → (length (toldBy q r clock .cc) ≡ 28) × (length (toldBy q r clock .cv .octets) ≡ 78)
@@ -126,15 +128,19 @@ module _ (row : List Session) (f : Fed) (r : Record) (input : List ℕ) (sound :
   unfolding callOf
   open-is k = rw (other (r .kind) 1 0 k refl, k)
 
-  pub open-calls : eqb (r .kind) 1 ≡ true → (g : Opening) → g ≡ openingIn input f r → (p : ℕ) → p ≡ firstHit (g .settings .label) (g .settings .discriminator) (f .head .occupied) row
-      → (s : Summary) → s ≡ rivalSeen p sound → (o : Outcome) (zs : List Session) → record { outcome = o; row = zs } ≡ openAt row (f .head) s g → Calls row f r input sound o zs
-  open-calls k g eg p ep s es o zs e mark stands short long =
-      let t = tableOf row (f .head) in
-      let rival : inOrder t ≡ true → s .rival ≡ any (rivals (g .settings)) (opens (f .head .occupied) row) =
-      λ i. ap (λ (z : Summary). z .rival) es ∙ ap (λ (n : ℕ). ltb n 64) ep ∙ ap (λ (n : ℕ). ltb (firstHit (g .settings .label) (g .settings .discriminator) (f .head .occupied) row) n) (sym (of-64 row (f .head) i)) ∙ first-rival t (g .settings) in
+  pub open-calls : eqb (r .kind) 1 ≡ true → (g : Opening) → g ≡ openingIn input f r
+      → (s : Summary) → s ≡ seenWith (summaryOf row (f .head) (openingTarget g)) sound → (o : Outcome) (zs : List Session) → record { outcome = o; row = zs } ≡ openAt row (f .head) s g → Calls row f r input sound o zs
+  open-calls k g eg s es o zs e mark stands short long =
+      let t = openingTarget g in
       let same : Open (g .settings) (g .reading) ≡ callOf r (bodyAt input f r) = ap (λ (y : Opening). Open (y .settings) (y .reading)) eg ∙ sym (open-is k) in
       both-same o zs (openAt row (f .head) s g) e (callOf r (bodyAt input f r))
-      (subst (λ (c : Call). Steps row (f .head) c (openAt row (f .head) s g)) same (open-steps row (f .head) long s (ap (λ (z : Summary). z .sound) es ∙ mark) g rival), open-whole row (f .head) s g)
+      (
+        subst (λ (c : Call). Steps row (f .head) c (openAt row (f .head) s g)) same
+            (open-steps row (f .head) long s (ap (λ (z : Summary). z .sound) es ∙ mark) g
+            (λ i fits. ap (λ (z : Summary). z .rival) es ∙ summary-rival row (f .head) t i (settings-say (g .settings) fits .discriminator))
+            (λ i. ap (λ (z : Summary). z .full) es ∙ summary-full row (f .head) t i)),
+        open-whole row (f .head) s g,
+      )
 
   -- ---- the calls on a label
   module _ (hints : List ℕ) (p : ℕ) (hints′ : List ℕ) (at : record { place = p; hints = hints′ } ≡ placedBy row hints (soughtIn f r) (r .label)) where

@@ -33,9 +33,9 @@ bodyAt input f r = bodyIn (drop (f .used) input) (r .size)
 abbrev pub openingIn : List ℕ → Fed → Record → Opening
 openingIn input f r = record { settings = settingsIn (r .label) (bodyAt input f r); reading = r .time }
 
--- what an open knows of the row, by the first record that has its label or its discriminator
-abbrev pub rivalSeen : ℕ → Bool → Summary
-rivalSeen place sound = record { place = 64; sound = sound; rival = ltb place 64 }
+-- what a scan saw, of a row of which it is known whether it is in order
+abbrev pub seenWith : Summary → Bool → Summary
+seenWith seen sound = record { place = seen .place; sound = sound; rival = seen .rival; full = seen .full }
 
 -- the set in which the label is looked for: a tick looks for none
 abbrev pub soughtIn : Fed → Record → ℕ
@@ -43,7 +43,7 @@ soughtIn f r = cond (eqb (r .kind) 0) 0 (f .head .occupied)
 
 -- what the others know of it
 abbrev pub seenAt : ℕ → Bool → Summary
-seenAt place sound = record { place = place; sound = sound; rival = false }
+seenAt place sound = record { place = place; sound = sound; rival = false; full = false }
 
 -- a body lies behind the 16 octets of its record; at the end of all numbers there is none
 abbrev pub bodyFrom : ℕ → ℕ

@@ -11,7 +11,7 @@ use step::Request;
 use table::Head;
 ghost use mathlib.Core.Path.{_≡_};
 ghost use lib.Dec.{eqb};
-ghost use Rattle.feed.specs.Calling.{openingIn, rivalSeen, soughtIn, seenAt, bodyFrom, arrivalIn, requestIn};
+ghost use Rattle.feed.specs.Calling.{openingIn, seenWith, soughtIn, seenAt, bodyFrom, arrivalIn, requestIn};
 
 // No label and no discriminator: whether the row is in order is all that is asked.
 pub fn nothing_sought() -> Target
@@ -49,12 +49,6 @@ pub fn head_of(f: Fed) -> Head
     head
 }
 
-pub fn occupied_of(f: Fed) -> u64
-    ensures { λ n. ⌜ n ≡ f .head .occupied ⌝ }
-{
-    f.head.occupied
-}
-
 pub fn label_of(r: Record) -> u32
     ensures { λ n. ⌜ n ≡ r .label ⌝ }
 {
@@ -71,26 +65,13 @@ pub fn opening_in(input: &[u8], f: Fed, r: Record) -> Opening
     }
 }
 
-pub fn opening_label(g: Opening) -> u32
-    ensures { λ n. ⌜ n ≡ g .settings .label ⌝ }
+// What a scan saw, of a row of which it is known whether it is in order.
+pub fn seen_with(seen: Summary, sound: bool) -> Summary
+    ensures { λ s. ⌜ s ≡ seenWith seen sound ⌝ }
 {
-    g.settings.label
-}
-
-pub fn opening_discriminator(g: Opening) -> u32
-    ensures { λ n. ⌜ n ≡ g .settings .discriminator ⌝ }
-{
-    g.settings.discriminator
-}
-
-pub fn rival_seen(place: usize, sound: bool) -> Summary
-    ensures { λ s. ⌜ s ≡ rivalSeen place sound ⌝ }
-{
-    Summary {
-        place: 64,
-        sound: sound,
-        rival: place < 64,
-    }
+    let mut known = seen;
+    known.sound = sound;
+    known
 }
 
 // The set in which the label is looked for: a tick looks for none.
@@ -110,6 +91,7 @@ pub fn seen_at(place: usize, sound: bool) -> Summary
         place: place,
         sound: sound,
         rival: false,
+        full: false,
     }
 }
 

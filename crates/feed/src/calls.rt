@@ -1,26 +1,24 @@
-// The call of one record on the row: an open behind the search for a rival, the others at the place
+// The call of one record on the row: an open behind a scan, the others at the place
 // of their label. A message goes by itself: most records bring one, and it tells nothing.
 use crate::Fed;
 use crate::asking::arrival_in;
 use crate::asking::head_of;
 use crate::asking::is_open;
 use crate::asking::label_of;
-use crate::asking::occupied_of;
-use crate::asking::opening_discriminator;
 use crate::asking::opening_in;
-use crate::asking::opening_label;
 use crate::asking::request_in;
-use crate::asking::rival_seen;
 use crate::asking::seen_at;
+use crate::asking::seen_with;
 use crate::asking::sought_in;
 use capture::Record;
-use row::find;
 use row::obey_at;
 use row::open_at;
 use row::place_known;
 use row::receive_at;
+use row::scan_row;
 use session::Session;
 use step::Outcome;
+use step::opening_target;
 ghost use mathlib.Core.Path.{_≡_};
 ghost use mathlib.Core.Bool.{true, false};
 ghost use lib.Dec.{eqb};
@@ -28,15 +26,15 @@ ghost use Rattle.step.specs.Stepping.{obeyAt};
 ghost use Rattle.step.specs.Arriving.{receiveAt};
 ghost use Rattle.feed.specs.Calling.{seenAt, arrivalIn, requestIn, Calls};
 
+// An open, behind a scan: beside a rival it asks how many sessions its party has open. Opens are few.
 fn open_call(row: &mut [Session], sound: bool, f: Fed, r: Record, input: &[u8]) -> Outcome
     ensures { λ o. ⌜ ((eqb (r .kind) 1 ≡ true) → Calls (now (row .entry)) f r (now (input .entry)) sound o (now (row .exit))) ⌝ }
 {
     let g = opening_in(input, f, r);
-    let occupied = occupied_of(f);
-    let label = opening_label(g);
-    let discriminator = opening_discriminator(g);
-    let place = find(&*row, occupied, label, discriminator);
-    let s = rival_seen(place, sound);
+    let at = head_of(f);
+    let target = opening_target(g);
+    let seen = scan_row(&*row, at, target);
+    let s = seen_with(seen, sound);
     let head = head_of(f);
     open_at(row, head, s, g)
 }

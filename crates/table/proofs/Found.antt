@@ -1,5 +1,5 @@
 -- The place of a label in the row. In a table in order an occupied place whose record has the label is that place, however it was come by: by a
--- search that ends at its first hit, or by a hint that is looked at.
+-- search that ends at its first hit, or by a hint that is looked at. A search for a label, or for a record with the discriminator 0, which no sound one has, finds it too.
 -- Assumes nothing.
 use Prim.Native.Nat.{ℕ, zero, suc, _/_, _<_}
 use native.Mathlib.Omega.{arith}
@@ -17,8 +17,8 @@ use Rattle.rules.proofs.Fitting.{settings-say}
 use Rattle.session.specs.declared.Session.{Session}
 use Rattle.session.specs.Soundness.{sessionSound}
 use Rattle.session.proofs.Sound.{sound-says}
-use Rattle.table.specs.Places.{firstOn, occupiedAt, opens, hasLabel, placeOf}
-use Rattle.table.specs.Table.{Table, openOf, sameLabel, inOrder, absent}
+use Rattle.table.specs.Places.{firstOn, occupiedAt, opens, hasLabel, placeOf, hits, firstHit}
+use Rattle.table.specs.Table.{Table, sameLabel, every, inOrder, absent}
 use Rattle.table.specs.Hints.{holds, hintOf, placedBy}
 use Rattle.table.proofs.OccupiedSet.{at-zero, at-suc}
 use Rattle.table.proofs.OpenPlaces.{held-any}
@@ -91,6 +91,27 @@ hint-right t e l hint =
     rw a (sym (found-place t e l hint (ltb-true hint (length (t .row)) (v .0)) (v .1) (w .1))))
     (λ a. rw a)
 
+-- a sound record's discriminator is not 0
+sound-hits : (l clock : ℕ) (r : Session) → sessionSound r clock ≡ true → hits l 0 r ≡ hasLabel l r
+sound-hits l clock r e =
+    let none = ne-eqb (r .settings .discriminator) 0 (settings-say (r .settings) (sound-says r clock e .settings) .discriminator) in
+    split (hasLabel l r) (λ a. rw a) (λ a. rw (a, none))
+
+-- so where every open record is sound, the search with 0 is for the label alone
+first-sound : (l clock on : ℕ) (row : List Session) → every (λ r. sessionSound r clock) (opens on row) ≡ true → firstHit l 0 on row ≡ placeOf l on row
+unfolding firstHit placeOf opens
+first-sound l clock on [] e = refl
+first-sound l clock on (r ∷ rs) e =
+    split (firstOn on)
+    (λ a.
+    let w = and-both _ _ (sym (every-cons (λ x. sessionSound x clock) r (opens (on / 2) rs)) ∙ rw a at e) in
+    rw a (λ i. cond (sound-hits l clock r (w .0) i) 0 (suc (first-sound l clock (on / 2) rs (w .1) i))))
+    (λ a. rw a (ap suc (first-sound l clock (on / 2) rs (rw a at e))))
+
+-- in a table in order the first record with the label or the discriminator 0 is that with the label
+pub first-label : (t : Table) → inOrder t ≡ true → (l : ℕ) → firstHit l 0 (t .occupied) (t .row) ≡ placeOf l (t .occupied) (t .row)
+first-label t e l = first-sound l (t .clock) (t .occupied) (t .row) (order-says t e .sound)
+
 -- the place by the hints is the place, whatever the hints are
 pub known-place : (t : Table) → inOrder t ≡ true → (l : ℕ) (hints : List ℕ) → placedBy (t .row) hints (t .occupied) l .place ≡ placeOf l (t .occupied) (t .row)
 unfolding placedBy
@@ -98,4 +119,4 @@ known-place t e l hints =
     let hint = hintOf hints l in
     split (holds l (t .occupied) (t .row) hint)
     (λ a. rw a (rw a at (hint-right t e l hint)))
-    (λ a. rw a)
+    (λ a. rw a (first-label t e l))

@@ -7,7 +7,7 @@ use mathlib.Core.List.{List}
 use lib.Dec.{ltb}
 use lib.ListN.{length, getD, set}
 use Rattle.session.specs.declared.Session.{Session}
-use Rattle.table.specs.Places.{occupiedAt, hasLabel, placeOf}
+use Rattle.table.specs.Places.{occupiedAt, hasLabel, firstHit}
 use Rattle.table.specs.Table.{absent}
 
 -- this place is in the row and occupied, and its record has the label
@@ -34,4 +34,4 @@ searched hints l place = record { place = place; hints = hintKept hints l place 
 -- the place of a label: the hint where it holds the label, else by a search
 unfoldable pub placedBy : List Session → List ℕ → ℕ → ℕ → Placed
 placedBy row hints on l =
-    cond (holds l on row (hintOf hints l)) (record { place = hintOf hints l; hints = hints }) (searched hints l (placeOf l on row))
+    cond (holds l on row (hintOf hints l)) (record { place = hintOf hints l; hints = hints }) (searched hints l (firstHit l 0 on row))

@@ -1,7 +1,7 @@
 -- The 64-bit set of occupied places: place i is occupied when set / 2 ^ i is odd. A row is gone through with the set halved at each record.
 -- Assumes nothing.
 use Prim.Native.Nat.{ℕ, zero, suc, _+_, _-_, _/_, _%_, _^_}
-use mathlib.Core.Bool.{Bool, cond, _&&_}
+use mathlib.Core.Bool.{Bool, cond, _&&_, _||_}
 use mathlib.Core.List.{List, [], _∷_}
 use lib.Dec.{eqb, ltb}
 use Rattle.session.specs.declared.Session.{Session}
@@ -44,3 +44,12 @@ hasLabel l r = eqb (r .settings .label) l
 unfoldable pub placeOf : ℕ → ℕ → List Session → ℕ
 placeOf l set [] = 0
 placeOf l set (r ∷ rs) = cond (firstOn set && hasLabel l r) 0 (suc (placeOf l (set / 2) rs))
+
+-- a record with the label or the discriminator
+abbrev pub hits : ℕ → ℕ → Session → Bool
+hits l d r = eqb (r .settings .label) l || eqb (r .settings .discriminator) d
+
+-- the place of the first open record with the label or the discriminator; behind the row where there is none
+unfoldable pub firstHit : ℕ → ℕ → ℕ → List Session → ℕ
+firstHit l d set [] = 0
+firstHit l d set (r ∷ rs) = cond (firstOn set && hits l d r) 0 (suc (firstHit l d (set / 2) rs))
