@@ -133,8 +133,7 @@ module _ (row : List Session) (f : Fed) (r : Record) (input : List ℕ) (sound :
   open-calls k g eg s es o zs e mark stands short long =
       let t = openingTarget g in
       let same : Open (g .settings) (g .reading) ≡ callOf r (bodyAt input f r) = ap (λ (y : Opening). Open (y .settings) (y .reading)) eg ∙ sym (open-is k) in
-      both-same o zs (openAt row (f .head) s g) e (callOf r (bodyAt input f r))
-      (
+      both-same o zs (openAt row (f .head) s g) e (callOf r (bodyAt input f r)) (
         subst (λ (c : Call). Steps row (f .head) c (openAt row (f .head) s g)) same
             (open-steps row (f .head) long s (ap (λ (z : Summary). z .sound) es ∙ mark) g
             (λ i fits. ap (λ (z : Summary). z .rival) es ∙ summary-rival row (f .head) t i (settings-say (g .settings) fits .discriminator))

@@ -156,13 +156,7 @@ fn has_key(pairs: &[u64], occupied: u64, key: u64) -> bool
 }
 
 // The label was found, or the discriminator is there in its party. Only an opening asks for one.
-pub fn rival_in(
-    pairs: &[u64],
-    occupied: u64,
-    place: usize,
-    label: u32,
-    discriminator: u32,
-) -> bool
+pub fn rival_in(pairs: &[u64], occupied: u64, place: usize, label: u32, discriminator: u32) -> bool
     ensures { λ r. ⌜ r ≡ rivalIn (now (pairs .entry)) occupied place label discriminator ⌝ }
 {
     if place < pairs.len() {
