@@ -10,15 +10,18 @@ use lib.ListN.{length}
 use borrow.Author.Tests.{eq-eqb, not-true}
 use Rattle.octets.proofs.Chain.{and-both}
 use Rattle.rules.specs.declared.Settings.{Settings}
-use Rattle.rules.specs.Lists.{any, once}
+use Rattle.rules.specs.Parties.{partyOf, ownDiscriminator}
+use Rattle.rules.specs.Lists.{any, only, once}
 use Rattle.rules.specs.Calls.{Call, On, ReportOn, Said, isAccepted, numberOnly, reporting}
 use Rattle.rules.proofs.Bools.{split, no-way}
 use Rattle.rules.proofs.Lists.{any-at, numbers-alike}
+use Rattle.rules.proofs.TwoParties.{same-own}
 use Rattle.session.specs.declared.Session.{Session}
 use Rattle.session.specs.Soundness.{sessionSound}
 use Rattle.table.specs.Places.{opens}
-use Rattle.table.specs.Table.{Table, openOf, sameLabel, sameDiscriminator, every, find, asked, answer, next, emptied}
+use Rattle.table.specs.Table.{Table, openOf, sameLabel, sameDiscriminator, openBy, every, find, asked, answer, next, emptied}
 use Rattle.table.proofs.Rows.{found-is}
+use Rattle.table.proofs.Shares.{heldBy}
 use Rattle.meaning.specs.Stories.{Story, settingsOf}
 use Rattle.meaning.specs.Standing.{report}
 use Rattle.meaning.specs.Histories.{History, start, after, clockOf, story, labels}
@@ -28,7 +31,7 @@ use Rattle.meaning.specs.Accounts.{Opening}
 use Rattle.meaning.specs.Lives.{callsFrom, askedIn}
 use Rattle.meaning.specs.Demand.{Demand3}
 use Rattle.meaning.proofs.Positions.{opening-told}
-use Rattle.meaning.proofs.Sim.{Fit, Sim, sim-order, sim-asked, sim-done, sim-same, same-count, fit-open, fit-record}
+use Rattle.meaning.proofs.Sim.{Fit, Sim, sim-order, sim-asked, sim-done, sim-same, same-count, most-labels, fit-open, fit-record}
 use Rattle.meaning.proofs.Accounted.{shown-crossing, shown-loss, shown-held-back, shown-conditions, condition-fresh}
 use Rattle.meaning.proofs.Timer.{timer-agrees}
 use Rattle.meaning.proofs.Numbers.{says-most}
@@ -63,7 +66,7 @@ opens-none [] = refl
 opens-none (r ∷ rs) = opens-none rs
 
 pub in-step-start : (row : List Session) → length row ≡ 64 → InStep start (emptied row)
-unfolding emptied clockOf story labels once any find
+unfolding emptied clockOf story labels once any only find
 in-step-start row e =
     let none′ = opens-none row in
     record {
@@ -73,9 +76,10 @@ in-step-start row e =
         sound = ap (every (λ r. sessionSound r 0)) none′;
         labels = ap (once sameLabel) none′;
         discriminators = ap (once sameDiscriminator) none′;
+        each = λ p. let nothing : openBy p (emptied row) ≡ 0 = ap (λ (rs : List Session). length (only (heldBy p) rs)) none′ in omega (arith, nothing);
       };
       fit = λ l. subst (λ (o : Option Session). Fit 0 o none) (sym (ap (find l) none′)) tt;
-      count = ap length none′;
+      counted = λ p. ap (λ (rs : List Session). length (only (heldBy p) rs)) none′;
       listed = λ l. refl;
       once-each = refl;
     }
@@ -138,10 +142,10 @@ one-each same back rs a b o (List·Memᴰ·tail {x = x} {xs} m) (List·Memᴰ·h
 one-each same back rs a b o (List·Memᴰ·tail {x = x} {xs} m) (List·Memᴰ·tail n) s =
     one-each same back xs a b (and-both (not (any (same x) xs)) (once same xs) o .1) m n s
 
--- so two open labels with one discriminator are one label
+-- so two open labels of one party with one discriminator are one label
 no-shared : (h : History) (t : Table) → InStep h t → (l m : ℕ) (s u : Story) → story l h ≡ some s → story m h ≡ some u
-    → settingsOf s .discriminator ≡ settingsOf u .discriminator → l ≡ m
-no-shared h t S l m s u p q e =
+    → partyOf l ≡ partyOf m → settingsOf s .discriminator ≡ settingsOf u .discriminator → l ≡ m
+no-shared h t S l m s u p q party e =
     let a = fit-record (find l (openOf t)) (subst (λ (o : Option Story). Fit (clockOf h) (find l (openOf t)) o) p (S .fit l)) in
     let b = fit-record (find m (openOf t)) (subst (λ (o : Option Story). Fit (clockOf h) (find m (openOf t)) o) q (S .fit m)) in
     let x = found-is l (openOf t) (a .0) (a .1) in
@@ -149,8 +153,9 @@ no-shared h t S l m s u p q e =
     let same : a .0 .settings .discriminator ≡ b .0 .settings .discriminator =
     ap (λ (g : Settings). g .discriminator) (a .2 .settings) ∙ e ∙ sym (ap (λ (g : Settings). g .discriminator) (b .2 .settings)) in
     let one : a .0 ≡ b .0 =
-    one-each sameDiscriminator (λ v w. numbers-alike .back (v .settings .discriminator) (w .settings .discriminator)) (openOf t) (a .0) (b .0) (S .ordered .discriminators) (x .0) (y .0)
-    (eq-eqb (a .0 .settings .discriminator) (b .0 .settings .discriminator) same) in
+    one-each sameDiscriminator (λ v w. numbers-alike .back (ownDiscriminator (v .settings)) (ownDiscriminator (w .settings))) (openOf t) (a .0) (b .0) (S .ordered .discriminators) (x .0) (y .0)
+    (eq-eqb (ownDiscriminator (a .0 .settings)) (ownDiscriminator (b .0 .settings))
+    (same-own (a .0 .settings) (b .0 .settings) .1 (ap partyOf (x .1) ∙ party ∙ sym (ap partyOf (y .1)), same))) in
     sym (x .1) ∙ ap (λ (r : Session). r .settings .label) one ∙ y .1
 
 pub demand3 : (row : List Session) → length row ≡ 64 → (cs : List Call) → Demand3 row cs
@@ -184,9 +189,11 @@ demand3 row e cs =
       untouched = λ other f ds l x y p q k. same-made l x y (all-at l (G .lived .all l) p) (all-at l (good-play (begin other) ds (good-begin other f) .lived .all l) q) k;
       once-each = G .in-step .once-each;
       unshared = no-shared (w .past) (w .table) (G .in-step);
+      at-most-32 = most-labels (G .in-step);
       row-open = λ l. fit-open (clockOf (w .past)) (find l (openOf (w .table))) (story l (w .past)) (G .in-step .fit l);
       row-labels = G .in-step .ordered .labels;
       row-discriminators = G .in-step .ordered .discriminators;
+      row-at-most-32 = G .in-step .ordered .each;
       row-count = same-count (G .in-step);
     }
   where

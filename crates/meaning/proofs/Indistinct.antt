@@ -26,6 +26,7 @@ use Rattle.rules.specs.States.{isLocked, downByNeighbor}
 use Rattle.rules.specs.Modes.{modeIn, movedIn, isSourceUp, isCoordinated, requiredInterval}
 use Rattle.rules.specs.Settings.{settingsFit}
 use Rattle.rules.specs.Received.{receivedAs}
+use Rattle.rules.specs.Parties.{partyOf, isOf}
 use Rattle.rules.specs.Conditions.{keyOf}
 use Rattle.rules.specs.Diagnostics.{remoteDefect, diagnosticOf, reportOf, packetOut}
 use Rattle.rules.specs.Lists.{any, only}
@@ -197,7 +198,7 @@ both-says now st st′ ls (Open g t) A =
     numberOnly (Open g t)
     (bar (late now t) 1
     (need (settingsFit g) 10
-    (bar (any (λ l. eqb l (g .label) || both-by now (hasDiscriminator (g .discriminator)) (λ r s B. ap (λ (x : Settings). eqb (x .discriminator) (g .discriminator)) (B .settings)) (st l) (st′ l) (A l) i) ls) 11 (bar (full ls) 12 0))))
+    (bar (any (λ l. eqb l (g .label) || (isOf (partyOf (g .label)) l && both-by now (hasDiscriminator (g .discriminator)) (λ r s B. ap (λ (x : Settings). eqb (x .discriminator) (g .discriminator)) (B .settings)) (st l) (st′ l) (A l) i)) ls) 11 (bar (full (g .label) ls) 12 0))))
 both-says now st st′ ls (On l a) A = both-act now l a (st l) (st′ l) (A l)
 
 -- 2. Each event keeps them alike.

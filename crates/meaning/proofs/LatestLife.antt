@@ -3,7 +3,7 @@
 use Prim.Native.Nat.{ℕ, _≤_, _<_}
 use native.Mathlib.Omega.{arith}
 use mathlib.Core.Path.{_≡_, refl, sym, ap, _∙_, subst}
-use mathlib.Core.Bool.{Bool, true, false, cond, _||_}
+use mathlib.Core.Bool.{Bool, true, false, cond}
 use mathlib.Core.Option.{Option}
 use mathlib.Core.List.{List, [], _∷_}
 use mathlib.Core.Logic.{⊎-elim}
@@ -20,7 +20,7 @@ use Rattle.rules.proofs.Bools.{split, refuted, true-false, or-left}
 use Rattle.rules.proofs.Lists.{any-at, any-who}
 use Rattle.meaning.specs.Stories.{Story}
 use Rattle.meaning.specs.Histories.{History, start, after, clockOf, actTold, told, story, labels}
-use Rattle.meaning.specs.Answers.{isOpen, hasDiscriminator, rival, full, openNumber, saysOf, says}
+use Rattle.meaning.specs.Answers.{isOpen, claims, rival, full, openNumber, saysOf, says}
 use Rattle.meaning.specs.Accounts.{size, Took, Opening}
 use Rattle.meaning.specs.Lives.{isOn, Made, goesOn, lives, callsFrom}
 use Rattle.meaning.proofs.Positions.{took-below, took-on, took-new, took-cases}
@@ -42,10 +42,10 @@ unfolding says saysOf openNumber rival
 shut-before h g t listed y =
     let l = g .label in
     let st : ℕ → Option Story = λ m. story m h in
-    let named : ℕ → Bool = λ m. eqb m l || hasDiscriminator (g .discriminator) (st m) in
-    let b = bar-passed (late (clockOf h) t) 0 (need (settingsFit g) 10 (bar (any named (labels h)) 11 (bar (full (labels h)) 12 0))) (eqb-true _ 0 y) in
-    let c = need-passed (settingsFit g) 9 (bar (any named (labels h)) 11 (bar (full (labels h)) 12 0)) (b .1) in
-    let d = bar-passed (any named (labels h)) 10 (bar (full (labels h)) 12 0) (c .1) in
+    let named = claims st g in
+    let b = bar-passed (late (clockOf h) t) 0 (need (settingsFit g) 10 (bar (any named (labels h)) 11 (bar (full l (labels h)) 12 0))) (eqb-true _ 0 y) in
+    let c = need-passed (settingsFit g) 9 (bar (any named (labels h)) 11 (bar (full l (labels h)) 12 0)) (b .1) in
+    let d = bar-passed (any named (labels h)) 10 (bar (full l (labels h)) 12 0) (c .1) in
     refuted (isOpen (story l h))
     (λ e.
     let w = any-who (eqb l) (labels h) (listed l ∙ e) in

@@ -1,9 +1,9 @@
 -- A label's calls settle what they are told: two lives in which the same is asked are the same.
 -- Assumes nothing.
-use Prim.Native.Nat.{ℕ, suc, _≤_}
+use Prim.Native.Nat.{ℕ}
 use native.Mathlib.Omega.{arith}
 use mathlib.Core.Path.{_≡_, refl, sym, ap, _∙_, subst}
-use mathlib.Core.Bool.{Bool, true, false, cond, not, _&&_, _||_}
+use mathlib.Core.Bool.{Bool, true, false, cond}
 use mathlib.Core.Option.{Option, none, some}
 use mathlib.Core.List.{List, [], _∷_, List·Memᴰ, List·Memᴰ·head, List·Memᴰ·tail}
 use lib.Dec.{eqb}
@@ -20,7 +20,7 @@ use Rattle.rules.proofs.Bools.{split, no-way, or-left}
 use Rattle.rules.proofs.Lists.{any-at, any-who}
 use Rattle.meaning.specs.Stories.{Story, opened, lock, unlock, got, wroteCc}
 use Rattle.meaning.specs.Histories.{History, start, after, clockOf, more, actTold, told, story, labels}
-use Rattle.meaning.specs.Answers.{isOpen, hasDiscriminator, rival, full, openNumber, actSaid, saysOf, says}
+use Rattle.meaning.specs.Answers.{isOpen, claims, rival, full, openNumber, actSaid, saysOf, says}
 use Rattle.meaning.specs.Lives.{isOn, Made, goesOn, lives, Asked, askedIn}
 
 -- 1. What a call on an open label says, from its story and the clock alone.
@@ -36,8 +36,8 @@ own now st ls l (Tick t) e o = no-way e refl
 own now st ls l (Open g t) e o =
     let w = any-who (eqb l) ls o in
     let same : l ≡ w .0 = eqb-true l (w .0) (w .2) in
-    let r : any (λ (m : ℕ). eqb m (g .label) || hasDiscriminator (g .discriminator) (st m)) ls ≡ true =
-    any-at (λ (m : ℕ). eqb m (g .label) || hasDiscriminator (g .discriminator) (st m)) (w .1)
+    let r : any (claims st g) ls ≡ true =
+    any-at (claims st g) (w .1)
     (or-left _ (eq-eqb (w .0) (g .label) (sym same ∙ sym (eqb-true (g .label) l e)))) in
     rw r
 own now st ls l (On m a) e o = ap (λ (k : ℕ). actSaid now (st k) m a) (eqb-true m l e)

@@ -48,5 +48,5 @@ unfolding saysOf openNumber
 says-most now st ls (Tick t) = bar-most 14 (late now t) (omega arith) (omega arith)
 says-most now st ls (Open g t) =
     bar-most 14 (late now t) (omega arith)
-    (need-most 14 (settingsFit g) (omega arith) (bar-most 14 (rival st ls g) (omega arith) (bar-most 14 (full ls) (omega arith) (omega arith))))
+    (need-most 14 (settingsFit g) (omega arith) (bar-most 14 (rival st ls g) (omega arith) (bar-most 14 (full (g .label) ls) (omega arith) (omega arith))))
 says-most now st ls (On l a) = act-most now (st l) l a

@@ -4,7 +4,7 @@
 use Prim.Native.Nat.{ℕ, _≤_}
 use native.Mathlib.Omega.{arith}
 use mathlib.Core.Path.{_≡_, refl, sym, ap, _∙_}
-use mathlib.Core.Bool.{Bool, true, false, not, _&&_, _||_}
+use mathlib.Core.Bool.{Bool, true, false, not, _&&_}
 use mathlib.Core.Option.{Option, none, some}
 use mathlib.Core.List.{List, List·Memᴰ}
 use mathlib.Core.Logic.{_↔_, ⊎-elim}
@@ -19,9 +19,10 @@ use Rattle.rules.specs.declared.Key.{Key}
 use Rattle.rules.specs.Times.{late}
 use Rattle.rules.specs.Settings.{settingsFit}
 use Rattle.rules.specs.Unfit.{Unfit}
+use Rattle.rules.specs.Parties.{partyOf, isOf}
 use Rattle.rules.specs.Conditions.{keyOf}
 use Rattle.rules.specs.Diagnostics.{lossAlarm}
-use Rattle.rules.specs.Lists.{any}
+use Rattle.rules.specs.Lists.{any, only}
 use Rattle.rules.proofs.Bools.{no-way, both-true, or-cases, or-left, or-right}
 use Rattle.rules.proofs.Failing.{and-right}
 use Rattle.rules.proofs.Unfit.{settings-unfit}
@@ -29,7 +30,7 @@ use Rattle.rules.proofs.Lists.{any-at, any-who}
 use Rattle.meaning.specs.Stories.{Story, settingsOf}
 use Rattle.meaning.specs.Standing.{loss, stands, conditions, report}
 use Rattle.meaning.specs.Histories.{History, story, labels}
-use Rattle.meaning.specs.Answers.{hasDiscriminator, rival, full, openNumber, crowded}
+use Rattle.meaning.specs.Answers.{hasDiscriminator, claims, rival, full, openNumber, crowded}
 use Rattle.meaning.proofs.Accounted.{stands-some, some-stands}
 
 -- 10: a setting out of range, and the reading is neither below the clock nor above the greatest
@@ -47,42 +48,45 @@ pub reading-10 : (now : ℕ) (st : ℕ → Option Story) (ls : List ℕ) (g : Se
     → (openNumber now st ls g t ≡ 10) ↔ ((late now t ≡ false) × Unfit g)
 unfolding openNumber
 reading-10 now st ls g t =
-    let c = chain-10 (late now t) (settingsFit g) (rival st ls g) (full ls) in
+    let c = chain-10 (late now t) (settingsFit g) (rival st ls g) (full (g .label) ls) in
     (λ e. let w = c .0 e in (w .0, settings-unfit g .0 (w .1)), λ w. c .1 (w .0, settings-unfit g .1 (w .1)))
 
--- 11: label or local discriminator already open
+-- 11: label already open, or local discriminator already open in one's own party
 pub data Taken (h : History) (g : Settings) : Type 0 where
   labelTaken : (l : ℕ) → List·Memᴰ l (labels h) → l ≡ g .label → Taken h g
-  discriminatorTaken : (l : ℕ) (s : Story) → List·Memᴰ l (labels h) → story l h ≡ some s → settingsOf s .discriminator ≡ g .discriminator → Taken h g
+  discriminatorTaken : (l : ℕ) (s : Story) → List·Memᴰ l (labels h) → partyOf l ≡ partyOf (g .label) → story l h ≡ some s → settingsOf s .discriminator ≡ g .discriminator → Taken h g
 
 module _ (h : History) (g : Settings) where
-  -- of one open label
-  abbrev claims : ℕ → Bool
-  claims l = eqb l (g .label) || hasDiscriminator (g .discriminator) (story l h)
-
-  taken-by : (l : ℕ) → List·Memᴰ l (labels h) → (o : Option Story) → story l h ≡ o → hasDiscriminator (g .discriminator) o ≡ true → Taken h g
-  taken-by l m none q e = no-way e refl
-  taken-by l m (some s) q e = discriminatorTaken l s m q (eqb-true _ _ e)
+  taken-by : (l : ℕ) → List·Memᴰ l (labels h) → partyOf l ≡ partyOf (g .label) → (o : Option Story) → story l h ≡ o
+      → hasDiscriminator (g .discriminator) o ≡ true → Taken h g
+  taken-by l m p none q e = no-way e refl
+  taken-by l m p (some s) q e = discriminatorTaken l s m p q (eqb-true _ _ e)
 
   -- 11 of the table
   pub reading-11 : (rival (λ l. story l h) (labels h) g ≡ true) ↔ Taken h g
   unfolding rival
   reading-11 = (
     λ e.
-        let w = any-who claims (labels h) e in
-        ⊎-elim (λ q. labelTaken (w .0) (w .1) (eqb-true _ _ q)) (λ q. taken-by (w .0) (w .1) (story (w .0) h) refl q)
-        (or-cases (eqb (w .0) (g .label)) (hasDiscriminator (g .discriminator) (story (w .0) h)) (w .2)),
+        let w = any-who (claims (λ l. story l h) g) (labels h) e in
+        let l = w .0 in
+        ⊎-elim (λ q. labelTaken l (w .1) (eqb-true _ _ q))
+        (λ q.
+        let own = and-both (isOf (partyOf (g .label)) l) (hasDiscriminator (g .discriminator) (story l h)) q in
+        taken-by l (w .1) (eqb-true (partyOf l) (partyOf (g .label)) (own .0)) (story l h) refl (own .1))
+        (or-cases (eqb l (g .label)) (isOf (partyOf (g .label)) l && hasDiscriminator (g .discriminator) (story l h)) (w .2)),
     back,
   )
     where
-      back : Taken h g → any claims (labels h) ≡ true
-      back (labelTaken l m e) = any-at claims m (or-left _ (eq-eqb l (g .label) e))
-      back (discriminatorTaken l s m q e) =
-          any-at claims m (or-right (eqb l (g .label)) (ap (hasDiscriminator (g .discriminator)) q ∙ eq-eqb _ _ e))
+      back : Taken h g → any (claims (λ l. story l h) g) (labels h) ≡ true
+      back (labelTaken l m e) = any-at (claims (λ l. story l h) g) m (or-left _ (eq-eqb l (g .label) e))
+      back (discriminatorTaken l s m p q e) =
+          any-at (claims (λ l. story l h) g) m
+          (or-right (eqb l (g .label))
+          (both-true (eq-eqb (partyOf l) (partyOf (g .label)) p) (ap (hasDiscriminator (g .discriminator)) q ∙ eq-eqb _ _ e)))
 
--- 12: all 64 places open
-pub reading-12 : (h : History) → (full (labels h) ≡ true) ↔ (length (labels h) ≡ 64)
-reading-12 h = (eqb-true (length (labels h)) 64, eq-eqb (length (labels h)) 64)
+-- 12: one's own 32 are open
+pub reading-12 : (h : History) (l : ℕ) → (full l (labels h) ≡ true) ↔ (length (only (isOf (partyOf l)) (labels h)) ≡ 32)
+reading-12 h l = (eqb-true (length (only (isOf (partyOf l)) (labels h))) 32, eq-eqb (length (only (isOf (partyOf l)) (labels h))) 32)
 
 -- 9, a new condition and 4 already stand: R is clear, the key does not stand at the reading, and at least 4 conditions stand
 pub reading-9 : (s : Story) (f : Fault) (t : ℕ)

@@ -1,9 +1,9 @@
 -- The table and the history: what both say, call by call.
 -- Assumes nothing.
-use Prim.Native.Nat.{ℕ, suc, _≤_}
+use Prim.Native.Nat.{ℕ, _+_, _≤_}
 use native.Mathlib.Omega.{arith}
 use mathlib.Core.Path.{_≡_, refl, sym, ap, _∙_, subst}
-use mathlib.Core.Bool.{Bool, true, false, cond, _||_}
+use mathlib.Core.Bool.{Bool, true, false, cond, _&&_}
 use mathlib.Core.Option.{Option, none, some, Option·map}
 use mathlib.Core.List.{List, [], _∷_, List·Memᴰ}
 use mathlib.Core.Logic.{⊎-elim}
@@ -12,33 +12,37 @@ use lib.ListN.{length, getD, set}
 use borrow.Author.Tests.{eqb-true, eq-eqb}
 use Rattle.octets.specs.Choice.{need, bar, orElse}
 use Rattle.octets.specs.Writing.{writing}
-use Rattle.octets.proofs.Chain.{bar-passed, orElse-passed}
+use Rattle.octets.proofs.Chain.{and-both, bar-passed, orElse-passed}
 use Rattle.message.specs.Message.{messageRefusal, messageOf}
 use Rattle.message.proofs.Read.{read-in-range}
 use Rattle.rules.specs.declared.Settings.{Settings}
 use Rattle.rules.specs.Times.{late}
 use Rattle.rules.specs.Settings.{settingsFit}
 use Rattle.rules.specs.Received.{receivedAs}
-use Rattle.rules.specs.Lists.{any, once, without}
+use Rattle.rules.specs.Parties.{partyOf, isOf, ownMost, ownDiscriminator}
+use Rattle.rules.specs.Lists.{any, only, once, without}
 use Rattle.rules.specs.Calls.{Act, Close, Lock, Unlock, Receive, ReportOn, WriteCc, WriteCv, Call, Tick, Open, On, Said, isAccepted, numberOnly, reporting, writes}
-use Rattle.rules.proofs.Bools.{split, no-way, or-cases, or-left, or-right, same-test}
+use Rattle.rules.proofs.Bools.{split, no-way, both-true, or-cases, or-left, or-right, same-test}
 use Rattle.rules.proofs.Ages.{not-late}
-use Rattle.rules.proofs.Lists.{length-inserted, any-at, any-who, any-same, numbers-alike, any-without-other, any-without-same, once-without, length-without, once-cons}
+use Rattle.rules.proofs.Lists.{any-at, any-who, any-same, numbers-alike, any-without-other, any-without-same, once-without, once-cons}
+use Rattle.rules.proofs.Counting.{oneIf, count-cons, count-inserted, count-without}
+use Rattle.rules.proofs.TwoParties.{party-most, same-own, both-parties}
 use Rattle.session.specs.declared.Session.{Session}
 use Rattle.session.specs.Steps as Steps
 use Rattle.session.specs.Queries.{reportAt, ccOctetsAt, cvOctetsAt}
 use Rattle.session.specs.Reception.{receivedAnswer}
 use Rattle.session.proofs.Received.{received-keeps}
 use Rattle.table.specs.Places.{occupiedOf, opens, hasLabel, placeOf}
-use Rattle.table.specs.Table.{Table, openOf, receiveAnswer, reportAnswer, writeAnswer, sameLabel, inOrder, find, isFound, rivals, openAnswer, actAnswer, asked, answer, altered, added, closed, receiving, actDone, done, next, absent}
-use Rattle.table.proofs.Rows.{opens-altered, count-opens, find-update-same, find-update-other, length-update, found-is, none-found, none-there, find-inserted-own, find-inserted-other, found-own}
+use Rattle.table.specs.Table.{Table, openOf, openBy, receiveAnswer, reportAnswer, writeAnswer, sameLabel, inOrder, find, isFound, rivals, openAnswer, actAnswer, asked, answer, altered, added, closed, receiving, actDone, done, next, absent}
+use Rattle.table.proofs.Rows.{opens-altered, count-opens, find-update-same, find-update-other, found-is, none-found, none-there, find-inserted-own, find-inserted-other, found-own}
 use Rattle.table.proofs.Apart.{added-one, closed-one, no-label, closed-apart}
+use Rattle.table.proofs.Shares.{heldBy, altered-count, place-left}
 use Rattle.table.proofs.Accepted.{OpenPassed, open-passed, found-passed}
 use Rattle.table.proofs.Order.{Ordered, says-order, act-ordered, done-ordered}
 use Rattle.meaning.specs.Stories.{Story, opened, lock, unlock, got, wroteCc, settingsOf}
 use Rattle.meaning.specs.Standing.{ccWritten, cvWritten}
 use Rattle.meaning.specs.Histories.{actReading, reading, more, actTold, told, actLabels, labelsAfter}
-use Rattle.meaning.specs.Answers.{receivedNumber, receiveNumber, reportSaid, writeSaid, isOpen, hasDiscriminator, rival, full, openNumber, actSaid, saysOf}
+use Rattle.meaning.specs.Answers.{receivedNumber, receiveNumber, reportSaid, writeSaid, isOpen, hasDiscriminator, claims, rival, full, openNumber, actSaid, saysOf}
 use Rattle.meaning.proofs.Fits.{Fits, same-report, same-cc, same-cv, same-received, fits-later, fits-opened, fits-locked, fits-unlocked, fits-wrote, fits-got}
 
 -- a record for a story, or neither
@@ -53,7 +57,7 @@ pub record Sim (now : ℕ) (st : ℕ → Option Story) (ls : List ℕ) (t : Tabl
   pub clock : t .clock ≡ now
   pub ordered : Ordered t
   pub fit : (l : ℕ) → Fit now (find l (openOf t)) (st l)
-  pub count : length (openOf t) ≡ length ls
+  pub counted : (p : ℕ) → openBy p t ≡ length (only (isOf p) ls)
   pub listed : (l : ℕ) → any (eqb l) ls ≡ isOpen (st l)
   pub once-each : once eqb ls ≡ true
 
@@ -76,6 +80,11 @@ fit-later later h none none f = f
 fit-later later h none (some s) f = f
 fit-later later h (some r) none f = f
 fit-later later h (some r) (some s) f = fits-later later h f
+
+-- one more on both sides, or on neither
+one-back : (b : Bool) {m n : ℕ} → oneIf b m ≡ oneIf b n → m ≡ n
+one-back true e = omega (arith, e)
+one-back false e = e
 
 -- an answer behind a test
 bar-same : (b : Bool) {x y : ℕ} → (b ≡ false → x ≡ y) → bar b 1 x ≡ bar b 1 y
@@ -132,22 +141,24 @@ module _ {now : ℕ} {st : ℕ → Option Story} {ls : List ℕ} {t : Table} (S 
       let here : any (eqb l) ls ≡ true = S .listed l ∙ ap isOpen (f .1) in
       let v = any-who (eqb l) ls here in
       let same : l ≡ v .0 = eqb-true l (v .0) (v .2) in
-      any-at (λ (m : ℕ). eqb m (g .label) || hasDiscriminator (g .discriminator) (st m)) (v .1)
-      (subst (λ (m : ℕ). eqb m (g .label) || hasDiscriminator (g .discriminator) (st m) ≡ true) same
+      any-at (claims st g) (v .1)
+      (subst (λ (m : ℕ). claims st g m ≡ true) same
       (⊎-elim (λ a. or-left _ a)
-      (λ a. or-right (eqb l (g .label))
-      (ap (hasDiscriminator (g .discriminator)) (f .1) ∙ ap (λ (x : Settings). eqb (x .discriminator) (g .discriminator)) (sym (f .2 .settings)) ∙ a))
-      (or-cases (eqb l (g .label)) (eqb (w .0 .settings .discriminator) (g .discriminator)) (w .2))))
+      (λ a. let one = same-own (w .0 .settings) g .0 (eqb-true _ _ a) in
+      or-right (eqb l (g .label))
+      (both-true (eq-eqb (partyOf l) (partyOf (g .label)) (one .0))
+      (ap (hasDiscriminator (g .discriminator)) (f .1) ∙ ap (λ (x : Settings). eqb (x .discriminator) (g .discriminator)) (sym (f .2 .settings)) ∙ eq-eqb _ _ (one .1))))
+      (or-cases (eqb l (g .label)) (eqb (ownDiscriminator (w .0 .settings)) (ownDiscriminator g)) (w .2))))
 
   rival-back : (g : Settings) → rival st ls g ≡ true → any (rivals g) (openOf t) ≡ true
   unfolding rival
   rival-back g e =
-      let w = any-who (λ (m : ℕ). eqb m (g .label) || hasDiscriminator (g .discriminator) (st m)) ls e in
+      let w = any-who (claims st g) ls e in
       let l = w .0 in
       let open′ : isOpen (st l) ≡ true = sym (S .listed l) ∙ any-at (eqb l) (w .1) (eq-eqb l l refl) in
       go l (st l) refl open′ (w .2)
     where
-      go : (l : ℕ) (o : Option Story) → st l ≡ o → isOpen o ≡ true → eqb l (g .label) || hasDiscriminator (g .discriminator) (st l) ≡ true → any (rivals g) (openOf t) ≡ true
+      go : (l : ℕ) (o : Option Story) → st l ≡ o → isOpen o ≡ true → claims st g l ≡ true → any (rivals g) (openOf t) ≡ true
       go l none q p k = no-way p refl
       go l (some s) q p k =
           let f = fit-record (find l (openOf t)) (subst (λ (o : Option Story). Fit now (find l (openOf t)) o) q (S .fit l)) in
@@ -155,21 +166,35 @@ module _ {now : ℕ} {st : ℕ → Option Story} {ls : List ℕ} {t : Table} (S 
           let found = found-is l (openOf t) r (f .1) in
           any-at (rivals g) (found .0)
           (⊎-elim (λ a. or-left _ (ap (λ (m : ℕ). eqb m (g .label)) (found .1) ∙ a))
-          (λ a. or-right (eqb (r .settings .label) (g .label))
-          (ap (λ (x : Settings). eqb (x .discriminator) (g .discriminator)) (f .2 .settings) ∙ (ap (hasDiscriminator (g .discriminator)) (sym q) ∙ a)))
-          (or-cases (eqb l (g .label)) (hasDiscriminator (g .discriminator) (st l)) k))
+          (λ a. let one = and-both (isOf (partyOf (g .label)) l) (hasDiscriminator (g .discriminator) (st l)) a in
+          or-right (eqb (r .settings .label) (g .label))
+          (eq-eqb (ownDiscriminator (r .settings)) (ownDiscriminator g)
+          (same-own (r .settings) g .1 (
+            ap partyOf (found .1) ∙ eqb-true (partyOf l) (partyOf (g .label)) (one .0),
+            eqb-true (r .settings .discriminator) (g .discriminator)
+                (ap (λ (x : Settings). eqb (x .discriminator) (g .discriminator)) (f .2 .settings) ∙ (ap (hasDiscriminator (g .discriminator)) (sym q) ∙ one .1)),
+          ))))
+          (or-cases (eqb l (g .label)) (isOf (partyOf (g .label)) l && hasDiscriminator (g .discriminator) (st l)) k))
 
   same-rivals : (g : Settings) → any (rivals g) (openOf t) ≡ rival st ls g
   same-rivals g = same-test _ _ (rival-there g) (rival-back g)
 
-  -- 12: the places and the open labels
+  -- the places and the open labels: each is of one party or of the other
   pub same-count : occupiedOf 64 (t .occupied) ≡ length ls
-  same-count = ap (λ (n : ℕ). occupiedOf n (t .occupied)) (sym (S .ordered .rows)) ∙ sym (count-opens (t .occupied) (t .row)) ∙ S .count
+  same-count =
+      ap (λ (n : ℕ). occupiedOf n (t .occupied)) (sym (S .ordered .rows)) ∙ sym (count-opens (t .occupied) (t .row))
+      ∙ sym (both-parties (λ (r : Session). r .settings .label) (openOf t))
+      ∙ (λ i. S .counted 0 i + S .counted 1 i)
+      ∙ both-parties (λ (l : ℕ). l) ls
+
+  -- 12: of no party more than 32
+  pub most-labels : (p : ℕ) → length (only (isOf p) ls) ≤ ownMost
+  most-labels p = omega (arith, S .counted p, S .ordered .each p)
 
   same-open : (g : Settings) (u : ℕ) → openAnswer t g u ≡ openNumber now st ls g u
   unfolding openAnswer openNumber
   same-open g u =
-      λ i. bar (late (S .clock i) u) 1 (need (settingsFit g) 10 (bar (same-rivals g i) 11 (bar (eqb (same-count i) 64) 12 0)))
+      λ i. bar (late (S .clock i) u) 1 (need (settingsFit g) 10 (bar (same-rivals g i) 11 (bar (eqb (S .counted (partyOf (g .label)) i) ownMost) 12 0)))
 
   same-act : (l : ℕ) (a : Act) (o : Option Session) (p : Option Story) → Fit now o p → actAnswer (t .clock) o l a ≡ actSaid now p l a
   unfolding actAnswer actSaid
@@ -197,7 +222,7 @@ module _ {now : ℕ} {st : ℕ → Option Story} {ls : List ℕ} {t : Table} (S 
         clock = refl;
         ordered = o;
         fit = λ l. fit-later u h (find l (openOf t)) (st l) (S .fit l);
-        count = S .count;
+        counted = S .counted;
         listed = S .listed;
         once-each = S .once-each;
       }
@@ -219,10 +244,14 @@ module _ {now : ℕ} {st : ℕ → Option Story} {ls : List ℕ} {t : Table} (S 
             (subst (λ (o : Option Session). Fit u o (tell (st l))) (sym (ap (find l) alike ∙ find-update-same l f (openOf t) k)) e)))
             (λ q. rw q
             (subst (λ (o : Option Session). Fit u o (st m)) (sym (ap (find m) alike ∙ find-update-other l m f (openOf t) k q)) (fit-later u h (find m (openOf t)) (st m) (S .fit m))));
-        count = ap length alike ∙ length-update l f (openOf t) ∙ S .count;
+        counted = λ p. altered-count t l u f k p ∙ S .counted p;
         listed = λ m. split (eqb l m) (λ q. S .listed m ∙ rw q (sym (same (st m)))) (λ q. S .listed m ∙ rw q);
         once-each = S .once-each;
       }
+
+  -- a place for who has not opened 32
+  pub free-place : (g : Settings) (u : ℕ) → OpenPassed t g u → occupiedOf 64 (t .occupied) ≡ 64 → ⊥
+  free-place g u p = place-left t (S .ordered .rows) (S .ordered .each) (partyOf (g .label)) (party-most (g .label)) (p .room)
 
   label-free : (g : Settings) → any (rivals g) (openOf t) ≡ false → any (eqb (g .label)) ls ≡ false
   label-free g e =
@@ -232,7 +261,7 @@ module _ {now : ℕ} {st : ℕ → Option Story} {ls : List ℕ} {t : Table} (S 
   sim-added : (g : Settings) (u : ℕ) → OpenPassed t g u → Ordered (added t g u) → Sim u (λ m. told m (Open g u) (st m)) (g .label ∷ ls) (added t g u)
   unfolding added Steps.newSession any
   sim-added g u p o =
-      let i = added-one t g u (S .ordered .rows) (p .room) in
+      let i = added-one t g u (S .ordered .rows) (free-place g u p) in
       let h : now ≤ u = omega (arith, S .clock, p .in-time) in
       let free = no-label g (openOf t) (p .unrivalled) in
       record {
@@ -244,7 +273,7 @@ module _ {now : ℕ} {st : ℕ → Option Story} {ls : List ℕ} {t : Table} (S 
             (subst (λ (o : Option Session). Fit u o (some (opened g u))) (sym (find-inserted-own i free)) (fits-opened g u (p .fit)))))
             (λ q. rw q
             (subst (λ (o : Option Session). Fit u o (st m)) (sym (find-inserted-other m i q)) (fit-later u h (find m (openOf t)) (st m) (S .fit m))));
-        count = length-inserted i ∙ ap suc (S .count);
+        counted = λ q. count-inserted (heldBy q) i ∙ ap (oneIf (isOf q (g .label))) (S .counted q) ∙ sym (count-cons (isOf q) (g .label) ls);
         listed = λ m. split (eqb (g .label) m)
             (λ q. rw (q, numbers-alike .back m (g .label) ∙ q))
             (λ q. rw (q, numbers-alike .back m (g .label) ∙ q) (S .listed m));
@@ -270,7 +299,9 @@ module _ {now : ℕ} {st : ℕ → Option Story} {ls : List ℕ} {t : Table} (S 
             (λ q. rw q (subst (λ (o : Option Session). Fit u o none) (sym (ap (λ (k : ℕ). find k rest) (sym (eqb-true l m q)) ∙ none-found l rest gone)) tt))
             (λ q. rw q
             (subst (λ (o : Option Session). Fit u o (st m)) (find-inserted-other m i (ap (λ (k : ℕ). eqb k m) label ∙ q)) (fit-later u h (find m (openOf t)) (st m) (S .fit m))));
-        count = omega (arith, length-inserted i, S .count, length-without eqb numbers-alike l ls there′);
+        counted = λ p. one-back (isOf p l)
+            (ap (λ (k : ℕ). oneIf (isOf p k) (length (only (heldBy p) rest))) (sym label) ∙ sym (count-inserted (heldBy p) i) ∙ S .counted p
+            ∙ sym (count-without (isOf p) eqb (λ a b q. ap (isOf p) (eqb-true a b q)) l ls there′));
         listed = λ m. split (eqb l m)
             (λ q. rw q (ap (λ (k : ℕ). any (eqb k) (without eqb l ls)) (sym (eqb-true l m q)) ∙ any-without-same eqb numbers-alike l ls (S .once-each)))
             (λ q. rw q (any-without-other eqb numbers-alike l m ls q ∙ S .listed m));
@@ -306,7 +337,7 @@ sim-same {now} {st} {st′} {ls} {t} e S =
       clock = S .clock;
       ordered = S .ordered;
       fit = λ m. subst (λ (p : Option Story). Fit now (find m (openOf t)) p) (e m) (S .fit m);
-      count = S .count;
+      counted = S .counted;
       listed = λ m. S .listed m ∙ ap isOpen (e m);
       once-each = S .once-each;
     }

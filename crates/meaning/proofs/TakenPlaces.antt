@@ -21,6 +21,7 @@ use Rattle.table.proofs.Rows.{free-exists, found-is}
 use Rattle.table.proofs.Accepted.{open-passed, found-passed}
 use Rattle.meaning.specs.Histories.{History}
 use Rattle.meaning.specs.Further.{TakesLowest, GivesBack}
+use Rattle.meaning.proofs.Sim.{free-place}
 use Rattle.meaning.proofs.Demand.{InStep, was-asked}
 
 -- 1. An open takes the lowest free place.
@@ -50,7 +51,7 @@ pub opens-lowest : (h : History) (t : Table) → InStep h t → (g : Settings) (
     → (p : ℕ) × TakesLowest t (next t (Open g u)) g p
 unfolding asked
 opens-lowest h t S g u e =
-    let room = open-passed t g u (ap (λ (a : Said). a .number) (sym (was-asked h t S (Open g u))) ∙ e) .room in
+    let room = free-place S g u (open-passed t g u (ap (λ (a : Said). a .number) (sym (was-asked h t S (Open g u))) ∙ e)) in
     let p = lowestFree 64 (t .occupied) in
     (p, subst (λ (x : Table). TakesLowest t x g p) (sym (open-done t g u e)) (takes-lowest t g u (S .ordered .rows) room))
 

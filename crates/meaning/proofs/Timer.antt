@@ -212,7 +212,7 @@ unfolding says saysOf openNumber
 brings h (Tick t) e = inl (bar-passed (late (clockOf h) t) 0 0 (eqb-true _ 0 e) .0)
 brings h (Open g t) e =
     inl
-    (bar-passed (late (clockOf h) t) 0 (need (settingsFit g) 10 (bar (rival (λ l. story l h) (labels h) g) 11 (bar (full (labels h)) 12 0))) (eqb-true _ 0 e) .0)
+    (bar-passed (late (clockOf h) t) 0 (need (settingsFit g) 10 (bar (rival (λ l. story l h) (labels h) g) 11 (bar (full (g .label) (labels h)) 12 0))) (eqb-true _ 0 e) .0)
 brings h (On l a) e = act-brings (clockOf h) (story l h) l a e
 
 -- so none below the clock

@@ -15,9 +15,10 @@ use Rattle.rules.specs.declared.Received.{Received}
 use Rattle.rules.specs.declared.Received.the-variants.{CrossedMessage, HeardCc, HeardCv, FaultMessage}
 use Rattle.rules.specs.Times.{late}
 use Rattle.rules.specs.Settings.{settingsFit}
+use Rattle.rules.specs.Parties.{partyOf, isOf, ownMost}
 use Rattle.rules.specs.Conditions.{keyOf}
 use Rattle.rules.specs.Calls.{Act, Close, Lock, Unlock, Receive, ReportOn, WriteCc, WriteCv, Call, Tick, Open, On, Said, numberOnly, reporting, writes}
-use Rattle.rules.specs.Lists.{any}
+use Rattle.rules.specs.Lists.{any, only}
 use Rattle.meaning.specs.Stories.{Story, settingsOf, wasTo}
 use Rattle.meaning.specs.Standing.{locked, stands, conditions, report, ccWritten, cvWritten}
 use Rattle.meaning.specs.Histories.{History, clockOf, story, labels}
@@ -30,17 +31,21 @@ abbrev pub hasDiscriminator : ℕ → Option Story → Bool
 hasDiscriminator d none = false
 hasDiscriminator d (some s) = eqb (settingsOf s .discriminator) d
 
--- 11: label or local discriminator already open
-unfoldable pub rival : (ℕ → Option Story) → List ℕ → Settings → Bool
-rival st ls g = any (λ l. eqb l (g .label) || hasDiscriminator (g .discriminator) (st l)) ls
+-- an open label is the one that is to be opened, or is of its party and has its local discriminator
+abbrev pub claims : (ℕ → Option Story) → Settings → ℕ → Bool
+claims st g l = eqb l (g .label) || (isOf (partyOf (g .label)) l && hasDiscriminator (g .discriminator) (st l))
 
--- 12: all 64 places open
-abbrev pub full : List ℕ → Bool
-full ls = eqb (length ls) 64
+-- 11: label already open, or local discriminator already open in one's own party
+unfoldable pub rival : (ℕ → Option Story) → List ℕ → Settings → Bool
+rival st ls g = any (claims st g) ls
+
+-- 12: one's own 32 are open
+abbrev pub full : ℕ → List ℕ → Bool
+full l ls = eqb (length (only (isOf (partyOf l)) ls)) ownMost
 
 -- open: 1, 10, 11, 12
 unfoldable pub openNumber : ℕ → (ℕ → Option Story) → List ℕ → Settings → ℕ → ℕ
-openNumber now st ls g t = bar (late now t) 1 (need (settingsFit g) 10 (bar (rival st ls g) 11 (bar (full ls) 12 0)))
+openNumber now st ls g t = bar (late now t) 1 (need (settingsFit g) 10 (bar (rival st ls g) 11 (bar (full (g .label) ls) 12 0)))
 
 -- 9: a new condition, and 4 already stand at the reading
 abbrev pub crowded : Story → Fault → ℕ → Bool

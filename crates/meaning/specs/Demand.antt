@@ -1,6 +1,6 @@
 -- Demand 3: one statement about every list of calls, refused ones included, from any row of 64 made empty.
 -- Assumes nothing.
-use Prim.Native.Nat.{ℕ, _+_, _<_}
+use Prim.Native.Nat.{ℕ, _+_, _≤_, _<_}
 use mathlib.Core.Path.{_≡_}
 use mathlib.Core.Bool.{true}
 use mathlib.Core.Logic.{_↔_}
@@ -11,11 +11,12 @@ use lib.Dec.{eqb}
 use Rattle.rules.specs.declared.Settings.{Settings}
 use Rattle.rules.specs.declared.Key.{Key}
 use Rattle.rules.specs.declared.Report.{Report}
-use Rattle.rules.specs.Lists.{once}
+use Rattle.rules.specs.Parties.{partyOf, isOf, ownMost}
+use Rattle.rules.specs.Lists.{only, once}
 use Rattle.rules.specs.Calls.{Call, On, ReportOn, reporting}
 use Rattle.session.specs.declared.Session.{Session}
 use Rattle.table.specs.Places.{occupiedOf}
-use Rattle.table.specs.Table.{Table, openOf, find, isFound, sameLabel, sameDiscriminator, answer}
+use Rattle.table.specs.Table.{Table, openOf, find, isFound, sameLabel, sameDiscriminator, openBy, answer}
 use Rattle.meaning.specs.Stories.{Story, settingsOf}
 use Rattle.meaning.specs.Standing.{report}
 use Rattle.meaning.specs.Histories.{clockOf, story, labels}
@@ -60,12 +61,14 @@ pub record Demand3 (row : List Session) (cs : List Call) : Type 0 where
   -- whatever the calls on other labels: two lives in which the same is asked, with the same clock before each call, are told the same
   pub untouched : (other : List Session) → length other ≡ 64 → (ds : List Call) (l : ℕ) (x y : List Made)
       → List·Memᴰ x (lives l (pastOf row cs)) → List·Memᴰ y (lives l (pastOf other ds)) → askedIn x ≡ askedIn y → x ≡ y
-  -- no two open sessions share a label or a discriminator
+  -- no two open sessions share a label, no two of one party a discriminator, and of no party are more than 32 open
   pub once-each : once eqb (labels (pastOf row cs)) ≡ true
   pub unshared : (l m : ℕ) (s u : Story) → story l (pastOf row cs) ≡ some s → story m (pastOf row cs) ≡ some u
-      → settingsOf s .discriminator ≡ settingsOf u .discriminator → l ≡ m
-  -- nor do two occupied places of the row; the occupied places are exactly the open labels' records, and the set's ones are their number
+      → partyOf l ≡ partyOf m → settingsOf s .discriminator ≡ settingsOf u .discriminator → l ≡ m
+  pub at-most-32 : (p : ℕ) → length (only (isOf p) (labels (pastOf row cs))) ≤ ownMost
+  -- so it is with the occupied places of the row; they are exactly the open labels' records, and the set's ones are their number
   pub row-open : (l : ℕ) → isFound (find l (openOf (tableAfter row cs))) ≡ isOpen (story l (pastOf row cs))
   pub row-labels : once sameLabel (openOf (tableAfter row cs)) ≡ true
   pub row-discriminators : once sameDiscriminator (openOf (tableAfter row cs)) ≡ true
+  pub row-at-most-32 : (p : ℕ) → openBy p (tableAfter row cs) ≤ ownMost
   pub row-count : occupiedOf 64 (tableAfter row cs .occupied) ≡ length (labels (pastOf row cs))
