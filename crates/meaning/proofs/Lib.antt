@@ -24,3 +24,5 @@ pub mod Machines
 pub mod Sources
 pub mod Readings
 pub mod Orders
+pub mod Isolation
+pub mod PartyEdges

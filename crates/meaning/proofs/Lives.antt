@@ -77,7 +77,7 @@ replay : ℕ → List Made → Option Story
 replay l [] = none
 replay l (m ∷ ms) = cond (isAccepted (m .said)) (told l (m .call) (replay l ms)) (replay l ms)
 
-told-off : (l : ℕ) (c : Call) (p : Option Story) → isOn l c ≡ false → told l c p ≡ p
+pub told-off : (l : ℕ) (c : Call) (p : Option Story) → isOn l c ≡ false → told l c p ≡ p
 told-off l (Tick t) p e = refl
 told-off l (Open g t) p e = rw e
 told-off l (On m a) p e = rw e
@@ -133,7 +133,7 @@ due-open l [] now c e = no-way e refl
 due-open l (m ∷ ms) now c e = refl
 
 -- a call that opens a label is an open that answers 0
-act-shut : (a : Act) → actTold a none ≡ none
+pub act-shut : (a : Act) → actTold a none ≡ none
 act-shut (Close t) = refl
 act-shut (Lock t) = refl
 act-shut (Unlock t) = refl

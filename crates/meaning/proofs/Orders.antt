@@ -152,7 +152,7 @@ one-label-matters row e x =
     let differ : _≡_ {A = ℕ} 3 1 = ap (λ (a : Said). a .report .state) same in
     omega arith
 
-clock-after : (row : List Session) → length row ≡ 64 → (cs : List Call) → tableAfter row cs .clock ≡ clockOf (told-all start cs)
+pub clock-after : (row : List Session) → length row ≡ 64 → (cs : List Call) → tableAfter row cs .clock ≡ clockOf (told-all start cs)
 unfolding tableAfter begin
 clock-after row e cs =
     good-play (begin row) cs (good-begin row e) .in-step .clock ∙ ap clockOf (past-told (begin row) cs (good-begin row e))

@@ -40,7 +40,7 @@ Hold (e ∷ es) = (lastSaid e ≡ e .said) × Hold es
 abbrev mep : ℕ → MepId
 mep local = record { agi = noAgi; global = 7; node = 8; local = local; kind = 1; group = 0; size = 0 }
 
-abbrev settings : Settings
+abbrev pub settings : Settings
 settings = record { own = mep 1; expected = mep 2; label = 100; discriminator = 17; period = 1000000; followlink = 0; followlock = 0; mode = 0 }
 
 abbrev pub opening : Call

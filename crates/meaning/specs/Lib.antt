@@ -12,3 +12,5 @@ pub mod Further
 pub mod HoldDown
 pub mod Machines
 pub mod Orders
+pub mod Parties
+pub mod PartyEdges
