@@ -12,7 +12,7 @@ use lib.ListN.{length, getD, drop}
 use borrow.Author.Tests.{eqb-true, eqb-false, eq-eqb, ne-eqb, ltb-true, ltb-false, lt-ltb, le-ltb, not-true}
 use Rattle.octets.proofs.Chain.{and-both, bar-passed}
 use Rattle.rules.specs.Times.{late, latest}
-use Rattle.rules.specs.Lists.{any, once}
+use Rattle.rules.specs.Lists.{any, only, once}
 use Rattle.rules.specs.Calls.{Act, Close, Lock, Unlock, Receive, ReportOn, WriteCc, WriteCv, Call, Tick, Open, On, Said, isAccepted}
 use Rattle.rules.proofs.Bools.{split, no-way}
 use Rattle.rules.proofs.Ages.{not-late}
@@ -163,7 +163,7 @@ unfolding emptied find
 start-agrees l row = record { own = ap (find l) (opens-none row) ∙ absent-none; clock = refl }
 
 pub start-order : (row : List Session) → length row ≡ 64 → inOrder (emptied row) ≡ true
-unfolding emptied inOrder any once
+unfolding emptied inOrder any only once
 start-order row e = rw (opens-none row, eq-eqb (length row) 64 e)
 
 pub rises-start : (row : List Session) (n : ℕ) (s : List ℕ) → inOrder (emptied row) ≡ true → Wholes n s → Ours (emptied row) (loggedBy n s) → Rises n 0 s

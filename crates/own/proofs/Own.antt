@@ -10,10 +10,12 @@ use borrow.Author.Tests.{eqb-true}
 use Rattle.message.specs.Message.{messageOf}
 use Rattle.rules.specs.declared.Settings.{Settings}
 use Rattle.rules.specs.Received.{receivedAs}
+use Rattle.rules.specs.Parties.{partyOf}
 use Rattle.rules.specs.Lists.{any}
 use Rattle.rules.specs.Calls.{Act, Close, Lock, Unlock, Receive, ReportOn, WriteCc, WriteCv, Call, Tick, Open, On, isAccepted}
 use Rattle.rules.proofs.Bools.{split}
 use Rattle.rules.proofs.Lists.{any-same, numbers-alike}
+use Rattle.rules.proofs.TwoParties.{party-most}
 use Rattle.session.specs.declared.Session.{Session}
 use Rattle.session.specs.Steps.{newSession, lockedBy, unlockedAt, replySettled}
 use Rattle.session.proofs.Received.{received-keeps}
@@ -21,6 +23,7 @@ use Rattle.table.specs.Places.{hasLabel}
 use Rattle.table.specs.Table.{Table, openOf, sameLabel, inOrder, find, actAnswer, asked, answer, absent, altered, added, closed, receiving, actDone, done, next}
 use Rattle.table.proofs.Rows.{opens-altered, find-update-same, find-update-other, found-is, none-found, find-inserted-own, find-inserted-other}
 use Rattle.table.proofs.Apart.{added-one, closed-one, no-label, closed-apart}
+use Rattle.table.proofs.Shares.{place-left}
 use Rattle.table.proofs.Accepted.{OpenPassed, open-passed, found-passed}
 use Rattle.table.proofs.Order.{Ordered, order-says}
 use Rattle.own.specs.Own.{ownAct, ownActed}
@@ -48,7 +51,7 @@ module _ (t : Table) (l : ℕ) where
     -- a new record, which has no rival
     own-added : (g : Settings) (u : ℕ) → OpenPassed t g u → find l (openOf (added t g u)) ≡ cond (eqb (g .label) l) (some (newSession g u)) own
     own-added g u p =
-        let i = added-one t g u (o .rows) (p .room) in
+        let i = added-one t g u (o .rows) (place-left t (o .rows) (o .each) (partyOf (g .label)) (party-most (g .label)) (p .room)) in
         split (eqb (g .label) l)
         (λ e. rw e (ap (λ (k : ℕ). find k (openOf (added t g u))) (sym (eqb-true (g .label) l e))
         ∙ (unfold newSession in find-inserted-own i (no-label g (openOf t) (p .unrivalled)))))
