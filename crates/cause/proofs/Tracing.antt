@@ -23,7 +23,7 @@ use Rattle.meaning.specs.Stories.{Story}
 use Rattle.meaning.specs.Histories.{History, start, after, clockOf, story}
 use Rattle.meaning.specs.Accounts.{size}
 use Rattle.meaning.proofs.Fits.{Fits, same-locked}
-use Rattle.meaning.proofs.Sim.{Fit, fit-story, sim-done}
+use Rattle.meaning.proofs.Sim.{Fit, fit-story, free-place, sim-done}
 use Rattle.meaning.proofs.Demand.{InStep, was-asked, opens-none}
 use Rattle.cause.specs.declared.Marks.{Marks}
 use Rattle.cause.specs.Noting.{anew, actNoted, actNotedIn, callNoted, noted, actKept, actKeptIn, callKept, keptAfter}
@@ -147,7 +147,7 @@ module _ (h : History) (l : ℕ) (t : Table) (m : Marks) (kept : List ℕ) (S : 
     unfolding Steps.newSession
     open-own j q e =
         let f : find (g .label) (openOf (added t g u)) ≡ some (Steps.newSession g u) =
-        find-inserted-own (added-one t g u (S .ordered .rows) (p .room)) (no-label g (openOf t) (p .unrivalled)) in
+        find-inserted-own (added-one t g u (S .ordered .rows) (free-place S g u p)) (no-label g (openOf t) (p .unrivalled)) in
         let i : some q ≡ some (Steps.newSession g u) = sym e ∙ ap (λ (k : ℕ). find k (openOf (added t g u))) (sym j) ∙ f in
         subst (λ (x : Session). Traced (after h (Open g u) a) l x (anew n) kept) (sym (some-one i)) (traced-open h a l g u kept y j)
 
@@ -155,7 +155,7 @@ module _ (h : History) (l : ℕ) (t : Table) (m : Marks) (kept : List ℕ) (S : 
     unfolding Steps.newSession
     open-other i q e =
         untouched (Open g u) (λ k v f w own. eqb-false (g .label) l i (open-label f ∙ own)) (λ b f w. open-on f) q
-        (sym (find-inserted-other l (added-one t g u (S .ordered .rows) (p .room)) i) ∙ e)
+        (sym (find-inserted-other l (added-one t g u (S .ordered .rows) (free-place S g u p)) i) ∙ e)
 
     by-open : (b : Bool) → eqb (g .label) l ≡ b → (q : Session) → find l (openOf (added t g u)) ≡ some q → Traced (after h (Open g u) a) l q (cond b (anew n) m) kept
     by-open true i q e = open-own (eqb-true (g .label) l i) q e
