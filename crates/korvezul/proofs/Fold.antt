@@ -23,6 +23,7 @@ use Rattle.table.specs.Table.{Table, emptied}
 use Rattle.step.specs.Stepping.{tableOf}
 use Rattle.meaning.specs.Histories.{History, start, after}
 use Rattle.meaning.specs.Worlds.{World, step, play, begin, pastOf, tableAfter}
+use Rattle.meaning.specs.Parties.{taken}
 use Rattle.meaning.proofs.Demand.{demand3}
 use Rattle.korvezul.specs.Calling.{Called, called, Emptied, emptying}
 use Rattle.korvezul.specs.Runs.{PublicCall, Promises, HandedOn, callsOf, toldBehind, RunDemand3}
@@ -35,9 +36,9 @@ pub run-is-fold : (cs : List PublicCall) (t v : Table) → Promises cs → Hande
 unfolding play step
 run-is-fold [] t v k e h = ap {B = World} (λ (u : Table). record { table = u; past = h }) e
 run-is-fold (c ∷ cs) t v k e h =
-    ap (λ (u : Table). play (record { table = called u (c .call) .table; past = after h (c .call) (called u (c .call) .said) }) (callsOf cs)) (e .0)
-    ∙ ap (λ (x : Called). play (record { table = x .table; past = after h (c .call) (x .said) }) (callsOf cs)) (sym (k .0))
-    ∙ run-is-fold cs (c .left) v (k .1) (e .1) (after h (c .call) (c .said))
+    ap (λ (u : Table). play (record { table = called u (taken (c .call)) .table; past = after h (taken (c .call)) (called u (taken (c .call)) .said) }) (callsOf cs)) (e .0)
+    ∙ ap (λ (x : Called). play (record { table = x .table; past = after h (taken (c .call)) (x .said) }) (callsOf cs)) (sym (k .0))
+    ∙ run-is-fold cs (c .left) v (k .1) (e .1) (after h (taken (c .call)) (c .said))
 
 -- a row made empty is the fold's beginning
 begins : (row : List Session) (head head′ : Head) (n : ℕ) → record { number = n; table = tableOf row head′ } ≡ emptying row head

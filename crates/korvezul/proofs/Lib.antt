@@ -9,3 +9,4 @@ pub mod ThinCall
 pub mod ThinAsk
 pub mod ThinWrite
 pub mod Places
+pub mod TwoRuns

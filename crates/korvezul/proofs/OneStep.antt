@@ -17,14 +17,14 @@ use Rattle.table.specs.declared.Head.{Head}
 use Rattle.table.specs.Places.{placeOf}
 use Rattle.scan.specs.declared.Target.{Target}
 use Rattle.scan.specs.Passing.{summaryOf}
-use Rattle.scan.proofs.Scanned.{summary-sound, summary-place, summary-rival}
+use Rattle.scan.proofs.Scanned.{summary-sound, summary-place, summary-rival, summary-full}
 use Rattle.step.specs.declared.Opening.{Opening}
 use Rattle.step.specs.declared.Outcome.{Outcome}
 use Rattle.step.specs.Requests.{isRequest, requestOn, requestOf, aimedAt, targetOf}
 use Rattle.step.specs.Saying.{saidOf, Steps}
 use Rattle.step.specs.Stepping.{tableOf, openingTarget, Obeyed}
 use Rattle.step.specs.Arriving.{receiveAt}
-use Rattle.step.proofs.TableStep.{tick-steps, act-steps, fit-steps}
+use Rattle.step.proofs.TableStep.{tick-steps, act-steps, open-steps}
 use Rattle.step.proofs.Arriving.{receive-steps}
 use Rattle.korvezul.specs.declared.ReportAnswer.{ReportAnswer}
 use Rattle.korvezul.specs.Calling.{called, obeyLent, openLent, arrivalOf, receiveLent, saidIn, reportOf}
@@ -52,7 +52,7 @@ module _ (row : List Session) (head : Head) (long : length row < 2 ^ 64) where
   pub open-step : (g : Opening) → Steps row head (Open (g .settings) (g .reading)) (openLent row head g)
   open-step g =
       let t = openingTarget g in
-      fit-steps row head long (summaryOf row head t) (summary-sound row head t) g (λ k f. summary-rival row head t k (settings-say (g .settings) f .discriminator))
+      open-steps row head long (summaryOf row head t) (summary-sound row head t) g (λ k f. summary-rival row head t k (settings-say (g .settings) f .discriminator)) (summary-full row head t)
 
   -- all the octets that are lent are the message
   pub receive-step : (l : ℕ) (m : List ℕ) (u : ℕ) → Steps row head (On l (Receive m u)) (receiveLent row head l m u)

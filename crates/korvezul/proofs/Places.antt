@@ -10,6 +10,7 @@ use Rattle.cv.proofs.Agi.Laws.{mir as agi}
 use Rattle.cv.proofs.MepId.Laws.{mir as mep-id}
 use Rattle.rules.proofs.Settings.Laws.{mir as settings}
 use Rattle.rules.proofs.Key.Laws.{mir as key}
+use Rattle.rules.proofs.Circuit.Laws.{mir as circuit}
 use Rattle.conditions.proofs.Condition.Laws.{mir as condition}
 use Rattle.conditions.proofs.Conditions.Laws.{mir as conditions}
 use Rattle.session.proofs.Peer.Laws.{mir as peer}
@@ -17,6 +18,7 @@ use Rattle.session.proofs.Session.Laws.{mir as session}
 use Rattle.table.proofs.Head.Laws.{mir as head}
 use Rattle.live.proofs.LiveQuestion.Laws.{mir as question}
 use Rattle.live.proofs.LiveCause.Laws.{mir as cause}
+use Rattle.korvezul.proofs.OpeningFor.Laws.{mir as opening}
 use Rattle.korvezul.proofs.ReportAnswer.Laws.{mir as report}
 use Rattle.fields.proofs.fields.PacketFields.Laws.{mir as packet}
 use Rattle.fields.proofs.fields.FaultFields.Laws.{mir as fault}
@@ -52,6 +54,12 @@ mep-id-laid = record { octets = refl; aligned = refl; fields = (refl, (refl, (re
 pub settings-laid : Laid settings 112 8 (0 ∷ 48 ∷ 96 ∷ 100 ∷ 104 ∷ 108 ∷ 109 ∷ 110 ∷ [])
 settings-laid = record { octets = refl; aligned = refl; fields = (refl, (refl, (refl, (refl, (refl, (refl, (refl, (refl, refl)))))))) }
 
+pub circuit-laid : Laid circuit 8 4 (0 ∷ 4 ∷ [])
+circuit-laid = record { octets = refl; aligned = refl; fields = (refl, (refl, refl)) }
+
+pub opening-laid : Laid opening 120 8 (0 ∷ 112 ∷ [])
+opening-laid = record { octets = refl; aligned = refl; fields = (refl, (refl, refl)) }
+
 pub key-laid : Laid key 16 4 (0 ∷ 4 ∷ 8 ∷ 12 ∷ 13 ∷ 14 ∷ [])
 key-laid = record { octets = refl; aligned = refl; fields = (refl, (refl, (refl, (refl, (refl, (refl, refl)))))) }
 
@@ -73,7 +81,7 @@ head-laid = record { octets = refl; aligned = refl; fields = (refl, (refl, refl)
 pub report-laid : Laid report 12 4 (0 ∷ 4 ∷ 5 ∷ 6 ∷ 7 ∷ 8 ∷ 9 ∷ 10 ∷ [])
 report-laid = record { octets = refl; aligned = refl; fields = (refl, (refl, (refl, (refl, (refl, (refl, (refl, (refl, refl)))))))) }
 
-pub question-laid : Laid question 24 4 (0 ∷ 4 ∷ 20 ∷ [])
+pub question-laid : Laid question 28 4 (0 ∷ 8 ∷ 24 ∷ [])
 question-laid = record { octets = refl; aligned = refl; fields = (refl, (refl, (refl, refl))) }
 
 pub cause-laid : Laid cause 48 8 (0 ∷ 16 ∷ 24 ∷ 32 ∷ 40 ∷ [])

@@ -14,10 +14,11 @@ use contract.Lifetimes.{Lfts}
 use denote.Ref.{now}
 use denote.Triple.Entry.{Args, Res}
 use denote.Triple.Clauses.{Ended, AtExit, Clauses}
-use Rattle.rules.specs.Calls.{Call, Tick, Open, On, Close, Lock, Unlock, Receive, ReportOn, WriteCc, WriteCv, Said, numberOnly, writes}
+use Rattle.rules.specs.Calls.{Close, Lock, Unlock, Receive, ReportOn, WriteCc, WriteCv, Said, numberOnly, writes}
 use Rattle.session.specs.declared.Session.{Session}
 use Rattle.table.specs.declared.Head.{Head}
 use Rattle.step.specs.Stepping.{tableOf}
+use Rattle.meaning.specs.Parties.{Named, TickTo, OpenFor, OnFor, taken}
 use Rattle.korvezul.specs.Calling.{saidIn}
 use Rattle.korvezul.specs.Runs.{PublicCall, Promise}
 use Rattle.korvezul.proofs.korvezul_tick as tick
@@ -43,12 +44,12 @@ pub data Exported : Type 0 where
   WritesCv : Exported
 
 -- row and head at entry, row and head at exit, the call, and what it said
-abbrev on : List Session → Head → List Session → Head → Call → Said → PublicCall
+abbrev on : List Session → Head → List Session → Head → Named → Said → PublicCall
 on row head row′ head′ c said = record { lent = tableOf row head; call = c; said = said; left = tableOf row′ head′ }
 
 -- the same where only a number is said
-abbrev answering : List Session → Head → List Session → Head → Call → ℕ → PublicCall
-answering row head row′ head′ c n = on row head row′ head′ c (numberOnly c n)
+abbrev answering : List Session → Head → List Session → Head → Named → ℕ → PublicCall
+answering row head row′ head′ c n = on row head row′ head′ c (numberOnly (taken c) n)
 
 module _ {M : Type 1} (𝓤 : URA M) (H : Heap 𝓤) (A : Atoms 𝓤) (mem : Memory → SProp 𝓤) (run : Routine → Fun 𝓤) where
   -- an exported function: its signature and its contract, and each call of it as a call on the table; what it ensures is that call's promise
@@ -63,55 +64,55 @@ module _ {M : Type 1} (𝓤 : URA M) (H : Heap 𝓤) (A : Atoms 𝓤) (mem : Mem
   functionOf Ticks = record {
     signed = tick.ended;
     clauses = tick.clauses 𝓤 H A mem run;
-    call = λ κs a r e. answering (now (a .0)) (now (a .1 .0)) (now (e .0)) (now (e .1 .0)) (Tick (a .1 .1 .0)) r;
+    call = λ κs a r e. answering (now (a .0)) (now (a .1 .0)) (now (e .0)) (now (e .1 .0)) (TickTo (a .1 .1 .0)) r;
     keeps = λ κs a g r e. id⊢ 𝓤 _;
   }
   functionOf Opens = record {
     signed = «open».ended;
     clauses = «open».clauses 𝓤 H A mem run;
-    call = λ κs a r e. answering (now (a .0)) (now (a .1 .0)) (now (e .0)) (now (e .1 .0)) (Open (a .1 .1 .0) (a .1 .1 .1 .0)) r;
+    call = λ κs a r e. answering (now (a .0)) (now (a .1 .0)) (now (e .0)) (now (e .1 .0)) (OpenFor (a .1 .1 .0 .party) (a .1 .1 .0 .settings) (a .1 .1 .1 .0)) r;
     keeps = λ κs a g r e. id⊢ 𝓤 _;
   }
   functionOf Closes = record {
     signed = close.ended;
     clauses = close.clauses 𝓤 H A mem run;
-    call = λ κs a r e. answering (now (a .0)) (now (a .1 .0)) (now (e .0)) (now (e .1 .0)) (On (a .1 .1 .0) (Close (a .1 .1 .1 .0))) r;
+    call = λ κs a r e. answering (now (a .0)) (now (a .1 .0)) (now (e .0)) (now (e .1 .0)) (OnFor (a .1 .1 .0 .party) (a .1 .1 .0 .label) (Close (a .1 .1 .1 .0))) r;
     keeps = λ κs a g r e. id⊢ 𝓤 _;
   }
   functionOf Locks = record {
     signed = lock.ended;
     clauses = lock.clauses 𝓤 H A mem run;
-    call = λ κs a r e. answering (now (a .0)) (now (a .1 .0)) (now (e .0)) (now (e .1 .0)) (On (a .1 .1 .0) (Lock (a .1 .1 .1 .0))) r;
+    call = λ κs a r e. answering (now (a .0)) (now (a .1 .0)) (now (e .0)) (now (e .1 .0)) (OnFor (a .1 .1 .0 .party) (a .1 .1 .0 .label) (Lock (a .1 .1 .1 .0))) r;
     keeps = λ κs a g r e. id⊢ 𝓤 _;
   }
   functionOf Unlocks = record {
     signed = unlock.ended;
     clauses = unlock.clauses 𝓤 H A mem run;
-    call = λ κs a r e. answering (now (a .0)) (now (a .1 .0)) (now (e .0)) (now (e .1 .0)) (On (a .1 .1 .0) (Unlock (a .1 .1 .1 .0))) r;
+    call = λ κs a r e. answering (now (a .0)) (now (a .1 .0)) (now (e .0)) (now (e .1 .0)) (OnFor (a .1 .1 .0 .party) (a .1 .1 .0 .label) (Unlock (a .1 .1 .1 .0))) r;
     keeps = λ κs a g r e. id⊢ 𝓤 _;
   }
   functionOf Receives = record {
     signed = receive.ended;
     clauses = receive.clauses 𝓤 H A mem run;
-    call = λ κs a r e. answering (now (a .0)) (now (a .1 .0)) (now (e .0)) (now (e .1 .0)) (On (a .1 .1 .0) (Receive (now (a .1 .1 .1 .0)) (a .1 .1 .1 .1 .0))) r;
+    call = λ κs a r e. answering (now (a .0)) (now (a .1 .0)) (now (e .0)) (now (e .1 .0)) (OnFor (a .1 .1 .0 .party) (a .1 .1 .0 .label) (Receive (now (a .1 .1 .1 .0)) (a .1 .1 .1 .1 .0))) r;
     keeps = λ κs a g r e. id⊢ 𝓤 _;
   }
   functionOf Reports = record {
     signed = report.ended;
     clauses = report.clauses 𝓤 H A mem run;
-    call = λ κs a r e. on (now (a .0)) (now (a .1 .0)) (now (e .0)) (now (e .1 .0)) (On (a .1 .1 .0) ReportOn) (saidIn r);
+    call = λ κs a r e. on (now (a .0)) (now (a .1 .0)) (now (e .0)) (now (e .1 .0)) (OnFor (a .1 .1 .0 .party) (a .1 .1 .0 .label) ReportOn) (saidIn r);
     keeps = λ κs a g r e. id⊢ 𝓤 _;
   }
   functionOf WritesCc = record {
     signed = write-cc.ended;
     clauses = write-cc.clauses 𝓤 H A mem run;
-    call = λ κs a r e. on (now (a .0)) (now (a .1 .0)) (now (e .0)) (now (e .1 .0)) (On (a .1 .1 .0) (WriteCc (now (a .1 .1 .1 .0)))) (writes (record { answer = r; buffer = now (e .1 .1 .1 .0) }));
+    call = λ κs a r e. on (now (a .0)) (now (a .1 .0)) (now (e .0)) (now (e .1 .0)) (OnFor (a .1 .1 .0 .party) (a .1 .1 .0 .label) (WriteCc (now (a .1 .1 .1 .0)))) (writes (record { answer = r; buffer = now (e .1 .1 .1 .0) }));
     keeps = λ κs a g r e. id⊢ 𝓤 _;
   }
   functionOf WritesCv = record {
     signed = write-cv.ended;
     clauses = write-cv.clauses 𝓤 H A mem run;
-    call = λ κs a r e. on (now (a .0)) (now (a .1 .0)) (now (e .0)) (now (e .1 .0)) (On (a .1 .1 .0) (WriteCv (now (a .1 .1 .1 .0)))) (writes (record { answer = r; buffer = now (e .1 .1 .1 .0) }));
+    call = λ κs a r e. on (now (a .0)) (now (a .1 .0)) (now (e .0)) (now (e .1 .0)) (OnFor (a .1 .1 .0 .party) (a .1 .1 .0 .label) (WriteCv (now (a .1 .1 .1 .0)))) (writes (record { answer = r; buffer = now (e .1 .1 .1 .0) }));
     keeps = λ κs a g r e. id⊢ 𝓤 _;
   }
 

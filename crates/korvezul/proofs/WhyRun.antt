@@ -15,7 +15,7 @@ use Rattle.meaning.specs.Worlds.{World, begin, pastOf, tableAfter}
 use Rattle.cause.specs.declared.Thing.{Thing}
 use Rattle.cause.specs.Causes.{causeOf}
 use Rattle.live.specs.declared.LiveQuestion.{LiveQuestion}
-use Rattle.live.specs.Live.{Dated, withoutNumber, thingOf, liveOf, toldOf, asking}
+use Rattle.live.specs.Live.{askedLabel, Dated, withoutNumber, thingOf, liveOf, toldOf, asking}
 use Rattle.live.proofs.Live.{live-of-past}
 use Rattle.korvezul.specs.Runs.{PublicCall, Promises, HandedOn, callsOf, toldBehind}
 use Rattle.korvezul.proofs.Fold.{run-is-fold}
@@ -37,7 +37,7 @@ module _ (row : List Session) (whole : length row ≡ 64) (cs : List PublicCall)
   abbrev head : Head
   head = record { clock = v .clock; occupied = v .occupied }
 
-  pub why-run : (q : LiveQuestion) (thing : Thing) → thingOf q ≡ some thing → asking v q .cause ≡ toldOf head (withoutNumber (causeOf (toldBehind start cs) (q .label) thing))
+  pub why-run : (q : LiveQuestion) (thing : Thing) → thingOf q ≡ some thing → asking v q .cause ≡ toldOf head (withoutNumber (causeOf (toldBehind start cs) (askedLabel q) thing))
   unfolding asking
   why-run q thing e =
-      ap (λ (o : Option Thing). toldOf head (liveOf v (q .label) o)) e ∙ ap (λ (a : Answer Dated). toldOf head a) (live-run (q .label) thing)
+      ap (λ (o : Option Thing). toldOf head (liveOf v (askedLabel q) o)) e ∙ ap (λ (a : Answer Dated). toldOf head a) (live-run (askedLabel q) thing)

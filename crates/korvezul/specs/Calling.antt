@@ -6,6 +6,9 @@ use mathlib.Core.List.{List, []}
 use lib.Dec.{eqb}
 use lib.ListN.{length}
 use Rattle.octets.specs.Choice.{need}
+use Rattle.rules.specs.declared.Circuit.{Circuit}
+use Rattle.rules.specs.declared.Settings.{Settings}
+use Rattle.rules.specs.Parties.{ownLabel}
 use Rattle.rules.specs.Calls.{Call, Said, noReport}
 use Rattle.rules.specs.declared.Report.{Report}
 use Rattle.session.specs.declared.Session.{Session}
@@ -20,6 +23,8 @@ use Rattle.step.specs.declared.Arrival.{Arrival}
 use Rattle.step.specs.Requests.{aimedAt, targetOf}
 use Rattle.step.specs.Arriving.{receiveAt}
 use Rattle.step.specs.Stepping.{tableOf, openingTarget, Obeyed, obeyAt, openAt}
+use Rattle.meaning.specs.Parties.{withLabel}
+use Rattle.korvezul.specs.declared.OpeningFor.{OpeningFor}
 use Rattle.korvezul.specs.declared.ReportAnswer.{ReportAnswer}
 use Rattle.korvezul.specs.declared.Begun.{Begun}
 
@@ -31,6 +36,14 @@ pub record Called : Type 0 where
 -- one step of the fold
 abbrev pub called : Table → Call → Called
 called t c = record { said = answer t c; table = next t c }
+
+-- the label that a circuit means: none where it is another party's
+abbrev pub meantBy : Circuit → ℕ
+meantBy c = ownLabel (c .party) (c .label)
+
+-- the same in settings to open with
+abbrev pub ownSettings : OpeningFor → Settings
+ownSettings g = withLabel (ownLabel (g .party) (g .settings .label)) (g .settings)
 
 -- what comes of a call on a lent row, which is scanned first
 abbrev pub obeyLent : List Session → Head → Request → Obeyed

@@ -1,6 +1,7 @@
 // The calls that a card makes: a lent row of session records, and lent beside it the clock with the
-// set of occupied places. Each call is one step of the table; a refusal changes nothing. No call
-// asks anything of its caller.
+// set of occupied places. Each call but a tick names its party, and on another party's label it is as on
+// one that is not open. Each call is one step of the table; a refusal changes nothing. No call asks
+// anything of its caller.
 mod answers;
 mod logs;
 mod messages;
@@ -13,11 +14,11 @@ use answers::number;
 use answers::put_cc;
 use answers::put_cv;
 use answers::reported;
+use requests::aimed_by;
 use requests::arrival;
 use requests::close_request;
 use requests::first_table;
 use requests::lock_request;
-use requests::opening;
 use requests::report_request;
 use requests::tick_request;
 use requests::unlock_request;
@@ -27,6 +28,7 @@ use row::obey_at;
 use row::open_at;
 use row::receive_at;
 use row::scan_row;
+use rules::Circuit;
 use rules::Settings;
 use session::Session;
 use step::Opening;
@@ -36,7 +38,7 @@ use table::Head;
 ghost use mathlib.Core.Path.{_≡_};
 ghost use Rattle.rules.specs.Calls.{Tick, Open, On, Close, Lock, Unlock, Receive, ReportOn, WriteCc, WriteCv, numberOnly, writes};
 ghost use Rattle.step.specs.Stepping.{tableOf};
-ghost use Rattle.korvezul.specs.Calling.{called, saidIn, obeyLent, openLent, emptying};
+ghost use Rattle.korvezul.specs.Calling.{meantBy, ownSettings, called, saidIn, obeyLent, openLent, emptying};
 
 // A report's answer, numbers alone so that it can be returned to any host: 0 and the seven numbers
 // of the report, or a refusal and seven noughts.
@@ -50,6 +52,13 @@ pub struct ReportAnswer {
     pub rdi: u8,
     pub blocked: u8,
     pub conditions: u8,
+}
+
+// Settings to open with, and the party whose call it is.
+#[repr(C)]
+pub struct OpeningFor {
+    pub settings: Settings,
+    pub party: u32,
 }
 
 // Clock and set of an empty table, and the answer.
@@ -105,12 +114,12 @@ pub extern "C" fn korvezul_tick(row: &mut [Session], head: &mut Head, reading: u
 pub extern "C" fn korvezul_open(
     row: &mut [Session],
     head: &mut Head,
-    settings: Settings,
+    opening: OpeningFor,
     reading: u64,
 ) -> u32
-    ensures { λ r. ⌜ record { said = numberOnly (Open settings reading) r; table = tableOf (now (row .exit)) (now (head .exit)) } ≡ called (tableOf (now (row .entry)) (now (head .entry))) (Open settings reading) ⌝ }
+    ensures { λ r. ⌜ record { said = numberOnly (Open (ownSettings opening) reading) r; table = tableOf (now (row .exit)) (now (head .exit)) } ≡ called (tableOf (now (row .entry)) (now (head .entry))) (Open (ownSettings opening) reading) ⌝ }
 {
-    let g = opening(settings, reading);
+    let g = requests::opening(opening, reading);
     let o = open_lent(row, head, g);
     number(o)
 }
@@ -120,12 +129,12 @@ pub extern "C" fn korvezul_open(
 pub extern "C" fn korvezul_close(
     row: &mut [Session],
     head: &mut Head,
-    label: u32,
+    circuit: Circuit,
     reading: u64,
 ) -> u32
-    ensures { λ r. ⌜ record { said = numberOnly (On label (Close reading)) r; table = tableOf (now (row .exit)) (now (head .exit)) } ≡ called (tableOf (now (row .entry)) (now (head .entry))) (On label (Close reading)) ⌝ }
+    ensures { λ r. ⌜ record { said = numberOnly (On (meantBy circuit) (Close reading)) r; table = tableOf (now (row .exit)) (now (head .exit)) } ≡ called (tableOf (now (row .entry)) (now (head .entry))) (On (meantBy circuit) (Close reading)) ⌝ }
 {
-    let q = close_request(label, reading);
+    let q = close_request(circuit, reading);
     let o = obey_lent(row, head, q);
     number(o)
 }
@@ -134,12 +143,12 @@ pub extern "C" fn korvezul_close(
 pub extern "C" fn korvezul_lock(
     row: &mut [Session],
     head: &mut Head,
-    label: u32,
+    circuit: Circuit,
     reading: u64,
 ) -> u32
-    ensures { λ r. ⌜ record { said = numberOnly (On label (Lock reading)) r; table = tableOf (now (row .exit)) (now (head .exit)) } ≡ called (tableOf (now (row .entry)) (now (head .entry))) (On label (Lock reading)) ⌝ }
+    ensures { λ r. ⌜ record { said = numberOnly (On (meantBy circuit) (Lock reading)) r; table = tableOf (now (row .exit)) (now (head .exit)) } ≡ called (tableOf (now (row .entry)) (now (head .entry))) (On (meantBy circuit) (Lock reading)) ⌝ }
 {
-    let q = lock_request(label, reading);
+    let q = lock_request(circuit, reading);
     let o = obey_lent(row, head, q);
     number(o)
 }
@@ -148,12 +157,12 @@ pub extern "C" fn korvezul_lock(
 pub extern "C" fn korvezul_unlock(
     row: &mut [Session],
     head: &mut Head,
-    label: u32,
+    circuit: Circuit,
     reading: u64,
 ) -> u32
-    ensures { λ r. ⌜ record { said = numberOnly (On label (Unlock reading)) r; table = tableOf (now (row .exit)) (now (head .exit)) } ≡ called (tableOf (now (row .entry)) (now (head .entry))) (On label (Unlock reading)) ⌝ }
+    ensures { λ r. ⌜ record { said = numberOnly (On (meantBy circuit) (Unlock reading)) r; table = tableOf (now (row .exit)) (now (head .exit)) } ≡ called (tableOf (now (row .entry)) (now (head .entry))) (On (meantBy circuit) (Unlock reading)) ⌝ }
 {
-    let q = unlock_request(label, reading);
+    let q = unlock_request(circuit, reading);
     let o = obey_lent(row, head, q);
     number(o)
 }
@@ -163,13 +172,13 @@ pub extern "C" fn korvezul_unlock(
 pub extern "C" fn korvezul_receive(
     row: &mut [Session],
     head: &mut Head,
-    label: u32,
+    circuit: Circuit,
     message: &[u8],
     reading: u64,
 ) -> u32
-    ensures { λ r. ⌜ record { said = numberOnly (On label (Receive (now (message .entry)) reading)) r; table = tableOf (now (row .exit)) (now (head .exit)) } ≡ called (tableOf (now (row .entry)) (now (head .entry))) (On label (Receive (now (message .entry)) reading)) ⌝ }
+    ensures { λ r. ⌜ record { said = numberOnly (On (meantBy circuit) (Receive (now (message .entry)) reading)) r; table = tableOf (now (row .exit)) (now (head .exit)) } ≡ called (tableOf (now (row .entry)) (now (head .entry))) (On (meantBy circuit) (Receive (now (message .entry)) reading)) ⌝ }
 {
-    let s = scan_row(&*row, *head, step::aimed_at(label));
+    let s = scan_row(&*row, *head, aimed_by(circuit));
     let x = arrival(*head, s, message.len(), reading);
     let o = receive_at(row, x, message);
     *head = o.head;
@@ -178,10 +187,10 @@ pub extern "C" fn korvezul_receive(
 
 // The report on a label, at the clock.
 #[no_mangle]
-pub extern "C" fn korvezul_report(row: &mut [Session], head: &mut Head, label: u32) -> ReportAnswer
-    ensures { λ r. ⌜ record { said = saidIn r; table = tableOf (now (row .exit)) (now (head .exit)) } ≡ called (tableOf (now (row .entry)) (now (head .entry))) (On label ReportOn) ⌝ }
+pub extern "C" fn korvezul_report(row: &mut [Session], head: &mut Head, circuit: Circuit) -> ReportAnswer
+    ensures { λ r. ⌜ record { said = saidIn r; table = tableOf (now (row .exit)) (now (head .exit)) } ≡ called (tableOf (now (row .entry)) (now (head .entry))) (On (meantBy circuit) ReportOn) ⌝ }
 {
-    let q = report_request(label);
+    let q = report_request(circuit);
     let o = obey_lent(row, head, q);
     reported(o)
 }
@@ -191,12 +200,12 @@ pub extern "C" fn korvezul_report(row: &mut [Session], head: &mut Head, label: u
 pub extern "C" fn korvezul_write_cc(
     row: &mut [Session],
     head: &mut Head,
-    label: u32,
+    circuit: Circuit,
     buffer: &mut [u8],
 ) -> u32
-    ensures { λ r. ⌜ record { said = writes (record { answer = r; buffer = now (buffer .exit) }); table = tableOf (now (row .exit)) (now (head .exit)) } ≡ called (tableOf (now (row .entry)) (now (head .entry))) (On label (WriteCc (now (buffer .entry)))) ⌝ }
+    ensures { λ r. ⌜ record { said = writes (record { answer = r; buffer = now (buffer .exit) }); table = tableOf (now (row .exit)) (now (head .exit)) } ≡ called (tableOf (now (row .entry)) (now (head .entry))) (On (meantBy circuit) (WriteCc (now (buffer .entry)))) ⌝ }
 {
-    let q = write_cc_request(label, buffer.len());
+    let q = write_cc_request(circuit, buffer.len());
     let o = obey_lent(row, head, q);
     put_cc(buffer, o)
 }
@@ -206,12 +215,12 @@ pub extern "C" fn korvezul_write_cc(
 pub extern "C" fn korvezul_write_cv(
     row: &mut [Session],
     head: &mut Head,
-    label: u32,
+    circuit: Circuit,
     buffer: &mut [u8],
 ) -> u32
-    ensures { λ r. ⌜ record { said = writes (record { answer = r; buffer = now (buffer .exit) }); table = tableOf (now (row .exit)) (now (head .exit)) } ≡ called (tableOf (now (row .entry)) (now (head .entry))) (On label (WriteCv (now (buffer .entry)))) ⌝ }
+    ensures { λ r. ⌜ record { said = writes (record { answer = r; buffer = now (buffer .exit) }); table = tableOf (now (row .exit)) (now (head .exit)) } ≡ called (tableOf (now (row .entry)) (now (head .entry))) (On (meantBy circuit) (WriteCv (now (buffer .entry)))) ⌝ }
 {
-    let q = write_cv_request(label, buffer.len());
+    let q = write_cv_request(circuit, buffer.len());
     let o = obey_lent(row, head, q);
     put_cv(buffer, o)
 }

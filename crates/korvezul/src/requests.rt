@@ -1,14 +1,17 @@
 // The request that each call makes.
 use crate::Begun;
-use rules::Settings;
+use crate::OpeningFor;
+use rules::Circuit;
 use scan::Summary;
+use scan::Target;
 use step::Arrival;
 use step::Opening;
 use step::Request;
 use table::Head;
 ghost use mathlib.Core.Path.{_≡_};
 ghost use Rattle.step.specs.declared.Request.the-variants.{Tick, Close, Lock, Unlock, ReportOn, WriteCc, WriteCv};
-ghost use Rattle.korvezul.specs.Calling.{arrivalOf, begunOf};
+ghost use Rattle.step.specs.Requests.{aimedAt};
+ghost use Rattle.korvezul.specs.Calling.{meantBy, ownSettings, arrivalOf, begunOf};
 
 pub fn tick_request(reading: u64) -> Request
     ensures { λ r. ⌜ r ≡ Tick reading ⌝ }
@@ -16,49 +19,65 @@ pub fn tick_request(reading: u64) -> Request
     Request::Tick(reading)
 }
 
-pub fn opening(settings: Settings, reading: u64) -> Opening
-    ensures { λ r. ⌜ r ≡ record { settings = settings; reading = reading } ⌝ }
+// The label that a circuit means.
+fn meant(c: Circuit) -> u32
+    ensures { λ r. ⌜ r ≡ meantBy c ⌝ }
 {
+    rules::own_label(c.party, c.label)
+}
+
+pub fn opening(g: OpeningFor, reading: u64) -> Opening
+    ensures { λ r. ⌜ r ≡ record { settings = ownSettings g; reading = reading } ⌝ }
+{
+    let mut settings = g.settings;
+    settings.label = rules::own_label(g.party, g.settings.label);
     Opening {
         settings: settings,
         reading: reading,
     }
 }
 
-pub fn close_request(label: u32, reading: u64) -> Request
-    ensures { λ r. ⌜ r ≡ Close label reading ⌝ }
+// A message looks for its label.
+pub fn aimed_by(c: Circuit) -> Target
+    ensures { λ r. ⌜ r ≡ aimedAt (meantBy c) ⌝ }
 {
-    Request::Close(label, reading)
+    step::aimed_at(meant(c))
 }
 
-pub fn lock_request(label: u32, reading: u64) -> Request
-    ensures { λ r. ⌜ r ≡ Lock label reading ⌝ }
+pub fn close_request(c: Circuit, reading: u64) -> Request
+    ensures { λ r. ⌜ r ≡ Close (meantBy c) reading ⌝ }
 {
-    Request::Lock(label, reading)
+    Request::Close(meant(c), reading)
 }
 
-pub fn unlock_request(label: u32, reading: u64) -> Request
-    ensures { λ r. ⌜ r ≡ Unlock label reading ⌝ }
+pub fn lock_request(c: Circuit, reading: u64) -> Request
+    ensures { λ r. ⌜ r ≡ Lock (meantBy c) reading ⌝ }
 {
-    Request::Unlock(label, reading)
+    Request::Lock(meant(c), reading)
 }
 
-pub fn report_request(label: u32) -> Request
-    ensures { λ r. ⌜ r ≡ ReportOn label ⌝ }
+pub fn unlock_request(c: Circuit, reading: u64) -> Request
+    ensures { λ r. ⌜ r ≡ Unlock (meantBy c) reading ⌝ }
 {
-    Request::ReportOn(label)
+    Request::Unlock(meant(c), reading)
 }
 
-pub fn write_cc_request(label: u32, room: usize) -> Request
-    ensures { λ r. ⌜ r ≡ WriteCc label room ⌝ }
+pub fn report_request(c: Circuit) -> Request
+    ensures { λ r. ⌜ r ≡ ReportOn (meantBy c) ⌝ }
 {
-    Request::WriteCc(label, room)
+    Request::ReportOn(meant(c))
 }
 
-pub fn write_cv_request(label: u32, room: usize) -> Request
-    ensures { λ r. ⌜ r ≡ WriteCv label room ⌝ }
+pub fn write_cc_request(c: Circuit, room: usize) -> Request
+    ensures { λ r. ⌜ r ≡ WriteCc (meantBy c) room ⌝ }
 {
-    Request::WriteCv(label, room)
+    Request::WriteCc(meant(c), room)
+}
+
+pub fn write_cv_request(c: Circuit, room: usize) -> Request
+    ensures { λ r. ⌜ r ≡ WriteCv (meantBy c) room ⌝ }
+{
+    Request::WriteCv(meant(c), room)
 }
 
 // A message that arrives, on a row that was scanned: all the octets that are lent are the message.

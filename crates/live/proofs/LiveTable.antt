@@ -22,7 +22,7 @@ use Rattle.step.proofs.TableStep.{place-found, of-64}
 use Rattle.cause.specs.declared.Thing.{Thing}
 use Rattle.live.specs.declared.LiveQuestion.{LiveQuestion}
 use Rattle.live.specs.declared.LiveCause.{LiveCause}
-use Rattle.live.specs.Live.{Dated, causeLive, withoutNumber, liveIn, liveOf, thingOf, toldOf, asking, answerOf, stepOf, whyAt}
+use Rattle.live.specs.Live.{askedLabel, Dated, causeLive, withoutNumber, liveIn, liveOf, thingOf, toldOf, asking, answerOf, stepOf, whyAt}
 
 -- by the record that was found, or none
 found-live : (r : Session) (place now : ℕ) (thing : Option Thing)
@@ -55,15 +55,15 @@ why-head row head seen q = told-head head (withoutNumber (answerOf seen (head .c
 
 -- what is told on a row that was scanned
 pub why-told : (row : List Session) (head : Head) (q : LiveQuestion)
-    → whyAt row head (summaryOf row head (aimedAt (q .label))) q ≡ toldOf head (liveOf (tableOf row head) (q .label) (thingOf q))
+    → whyAt row head (summaryOf row head (aimedAt (askedLabel q))) q ≡ toldOf head (liveOf (tableOf row head) (askedLabel q) (thingOf q))
 unfolding whyAt stepOf
 why-told row head q =
-    let t = aimedAt (q .label) in
-    ap (toldOf head) (answer-live row head (summaryOf row head t) (q .label) (summary-sound row head t) (summary-place row head t) (thingOf q))
+    let t = aimedAt (askedLabel q) in
+    ap (toldOf head) (answer-live row head (summaryOf row head t) (askedLabel q) (summary-sound row head t) (summary-place row head t) (thingOf q))
 
 -- the question, from what is told, the last row and the last head
 pub asked-live : (row : List Session) (head : Head) (q : LiveQuestion) (told : LiveCause) (rest : List Session)
-    → told ≡ whyAt row head (summaryOf row head (aimedAt (q .label))) q → rest ≡ row → record { cause = told; table = tableOf rest (told .head) } ≡ asking (tableOf row head) q
+    → told ≡ whyAt row head (summaryOf row head (aimedAt (askedLabel q))) q → rest ≡ row → record { cause = told; table = tableOf rest (told .head) } ≡ asking (tableOf row head) q
 unfolding asking
 asked-live row head q told rest e f =
     let h : told .head ≡ head = ap (λ (u : LiveCause). u .head) e ∙ why-head row head _ q in

@@ -1,5 +1,5 @@
 -- Why a thing stands, from a table alone: the reading of the message that accounts for it, its age at the clock, and the end. 26 where the table is not in order, 2 where no
--- session has the label, 15 where the thing does not stand.
+-- session of the party has the label, 15 where the thing does not stand.
 -- Assumes nothing.
 use Prim.Native.Nat.{ℕ}
 use mathlib.Core.Bool.{cond}
@@ -8,6 +8,7 @@ use mathlib.Core.List.{List}
 use lib.Dec.{eqb}
 use lib.ListN.{getD}
 use Rattle.octets.specs.Choice.{need, Answer, accepted, refused}
+use Rattle.rules.specs.Parties.{ownLabel}
 use Rattle.conditions.specs.declared.Conditions.{Conditions}
 use Rattle.session.specs.declared.Session.{Session}
 use Rattle.table.specs.declared.Head.{Head}
@@ -30,6 +31,10 @@ thingOf q =
     (cond (eqb (q .thing) 2) (some Loss)
     (cond (eqb (q .thing) 3) (some HeldBack)
     (cond (eqb (q .thing) 4) (some (Condition (q .key))) none)))
+
+-- the label that is asked about: none where it is another party's
+abbrev pub askedLabel : LiveQuestion → ℕ
+askedLabel q = ownLabel (q .circuit .party) (q .circuit .label)
 
 -- an answer without the record's number: reading, age, end
 pub record Dated : Type 0 where
@@ -81,7 +86,7 @@ pub record Asked : Type 0 where
 
 -- a question to a table, which leaves it as it is
 unfoldable pub asking : Table → LiveQuestion → Asked
-asking t q = record { cause = toldOf (record { clock = t .clock; occupied = t .occupied }) (liveOf t (q .label) (thingOf q)); table = t }
+asking t q = record { cause = toldOf (record { clock = t .clock; occupied = t .occupied }) (liveOf t (askedLabel q) (thingOf q)); table = t }
 
 -- The same, once it is known whether the table is in order and where the label stands: what the code does
 abbrev pub tableRefusal : Summary → ℕ

@@ -16,13 +16,13 @@ use table::Head;
 ghost use mathlib.Core.Path.{_≡_};
 ghost use Rattle.step.specs.Requests.{aimedAt};
 ghost use Rattle.cause.specs.FromMarks.{said};
-ghost use Rattle.live.specs.Live.{liveMarks, thingOf, causeLive, withoutNumber, toldOf, tableRefusal, answerOf, stepOf};
+ghost use Rattle.live.specs.Live.{askedLabel, liveMarks, thingOf, causeLive, withoutNumber, toldOf, tableRefusal, answerOf, stepOf};
 
-// A question looks for its label.
+// A question looks for its label, which is none where it is another party's.
 pub fn live_target(q: LiveQuestion) -> Target
-    ensures { λ r. ⌜ r ≡ aimedAt (q .label) ⌝ }
+    ensures { λ r. ⌜ r ≡ aimedAt (askedLabel q) ⌝ }
 {
-    step::aimed_at(q.label)
+    step::aimed_at(rules::own_label(q.circuit.party, q.circuit.label))
 }
 
 // In place of record numbers the readings of the conditions: of two the later record has no smaller

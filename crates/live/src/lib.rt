@@ -7,14 +7,16 @@ pub use answer::kept_record;
 pub use answer::live_step;
 pub use answer::live_target;
 pub use known::why_at;
+use rules::Circuit;
 use rules::Key;
 use table::Head;
 
-// What is asked: a label, the number of a thing, and the key of a condition. 1 is a crossing, 2 a
-// loss, 3 an alarm held back, 4 the condition of the key. Any other number stands for nothing.
+// What is asked: a label and the party that asks, the number of a thing, and the key of a condition. 1
+// is a crossing, 2 a loss, 3 an alarm held back, 4 the condition of the key. Any other number stands for
+// nothing.
 #[repr(C)]
 pub struct LiveQuestion {
-    pub label: u32,
+    pub circuit: Circuit,
     pub key: Key,
     pub thing: u8,
 }

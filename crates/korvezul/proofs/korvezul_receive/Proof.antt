@@ -11,6 +11,7 @@ use contract.Running.{givenOf, tables, tablesOf}
 use denote.Memory.{pointee}
 use denote.Triple.Spec.{tripleOf}
 use denote.Triple.Table.{entered, cited}
+use Rattle.rules.specs.declared.Circuit.{Circuit}
 use Rattle.rules.specs.Calls.{Call, On, Receive, numberOnly}
 use Rattle.session.specs.declared.Session.{Session}
 use Rattle.table.specs.declared.Head.{Head}
@@ -23,9 +24,9 @@ use Rattle.step.specs.Requests.{aimedAt}
 use Rattle.step.specs.Arriving.{receiveAt}
 use Rattle.step.specs.Stepping.{tableOf}
 use Rattle.step.proofs.Told.Laws as Told″
-use Rattle.step.proofs.aimed_at.Symbol as tg-def
-use Rattle.step.proofs.aimed_at.Symbol.{name as #step·aimed-at}
-use Rattle.step.proofs.aimed_at.Met as tg-thm
+use Rattle.korvezul.proofs.requests.aimed_by.Symbol as tg-def
+use Rattle.korvezul.proofs.requests.aimed_by.Symbol.{name as #korvezul·aimed-by}
+use Rattle.korvezul.proofs.requests.aimed_by.Met as tg-thm
 use Rattle.walks.proofs.TypeParts.{name-of, fields-of, place-in}
 use Rattle.row.proofs.Plains.{Plain, u32P, u64P, headP, targetP, summaryP, outcomeP, sessionP, arrivalP}
 use Rattle.row.proofs.scan_row.Symbol as sc-def
@@ -34,7 +35,8 @@ use Rattle.row.proofs.scan_row.Met as sc-thm
 use Rattle.row.proofs.receive_at.Symbol as at-def
 use Rattle.row.proofs.receive_at.Symbol.{name as #row·receive-at}
 use Rattle.row.proofs.receive_at.Met as at-thm
-use Rattle.korvezul.specs.Calling.{called, arrivalOf, receiveLent}
+use Rattle.korvezul.specs.Calling.{meantBy, called, arrivalOf, receiveLent}
+use Rattle.korvezul.proofs.CallPlains.{circuitP}
 use Rattle.korvezul.proofs.OneStep.{receive-step, one-step}
 use Rattle.korvezul.proofs.LentRow.{head-is}
 use Rattle.walks.proofs.LentReceive as lent
@@ -51,7 +53,10 @@ use Rattle.korvezul.proofs.korvezul_receive.Code as code
 use Rattle.korvezul.proofs.korvezul_receive.Code.Mir as pieces
 
 -- ---- with no model: what the five calls come to
-module _ (ys : List Session) (h : Head) (l : ℕ) (ms : List ℕ) (u : ℕ) where
+module _ (ys : List Session) (h : Head) (c : Circuit) (ms : List ℕ) (u : ℕ) where
+  abbrev l : ℕ
+  l = meantBy c
+
   abbrev made : Call
   made = On l (Receive ms u)
 
@@ -65,9 +70,9 @@ module _ (ys : List Session) (h : Head) (l : ℕ) (ms : List ℕ) (u : ℕ) wher
       let arrived : x ≡ arrivalOf h (summaryOf ys h (aimedAt l)) (length ms) u = e₃ ∙ ap (λ (y : Summary). arrivalOf h y (length ms) u) seen in
       one-step ys h made (receiveLent ys h l ms u) (receive-step ys h long l ms u) v zs (v .head) (e₄ ∙ ap (λ (y : Arrival). receiveAt ys y ms) arrived) refl (numberOnly made n) (ap (numberOnly made) e₅)
 
-abbrev the-call : lent.Call sessionP headP u32P u64P u32P outcomeP arrivalP summaryP targetP
+abbrev the-call : lent.Call sessionP headP circuitP u64P u32P outcomeP arrivalP summaryP targetP
 the-call = record {
-  aim = aimedAt;
+  aim = λ c. aimedAt (meantBy c);
   summed = summaryOf;
   arrive = arrivalOf;
   Ran = λ ys x ms v zs. record { outcome = v; row = zs } ≡ receiveAt ys x ms;
@@ -77,7 +82,7 @@ the-call = record {
   o-val = λ v. refl;
   head-is = head-is;
   Said = Says;
-  says = λ ys long h l ms u. said ys h l ms u long;
+  says = λ ys long h c ms u. said ys h c ms u long;
 }
 
 -- a type, as the function spells it
@@ -89,12 +94,12 @@ unfolding code.routine tablesOf
 korvezul-receive-spec 𝓤 H 𝓜 𝓖 𝓡 =
     entered 𝓤 H (tripleOf 𝓤 H (𝓖 .A) f.signature (f.spec 𝓤 H (𝓖 .A) (𝓜 .mem) (𝓡 .run)))
     (tables 𝓤 H 𝓜 𝓡 code.env .C) (tables 𝓤 H 𝓜 𝓡 code.env .Λ) #korvezul·receive code.function (code.unfolded 𝓤 H 𝓜 𝓡)
-    (lent.meets sessionP headP u32P u64P u32P outcomeP arrivalP summaryP targetP the-call
-    (spelled u32P) (spelled u32P) (spelled u64P) (spelled summaryP) (spelled arrivalP) (spelled headP) (spelled targetP) (spelled sessionP) (name-of (spelled outcomeP)) (fields-of (spelled outcomeP)) (place-in (fields-of (spelled outcomeP)) 0) refl refl
-    (u32P .typed 𝓤 H (𝓖 .A) (givenOf 𝓤 H 𝓜 𝓖)) (u32P .typed 𝓤 H (𝓖 .A) (givenOf 𝓤 H 𝓜 𝓖)) (u64P .typed 𝓤 H (𝓖 .A) (givenOf 𝓤 H 𝓜 𝓖)) (summaryP .typed 𝓤 H (𝓖 .A) (givenOf 𝓤 H 𝓜 𝓖)) (arrivalP .typed 𝓤 H (𝓖 .A) (givenOf 𝓤 H 𝓜 𝓖)) (headP .typed 𝓤 H (𝓖 .A) (givenOf 𝓤 H 𝓜 𝓖)) (targetP .typed 𝓤 H (𝓖 .A) (givenOf 𝓤 H 𝓜 𝓖)) (outcomeP .typed 𝓤 H (𝓖 .A) (givenOf 𝓤 H 𝓜 𝓖))
-    #step·aimed-at #row·scan-row #korvezul·arrival #row·receive-at #korvezul·number 𝓤 H (𝓖 .A) (givenOf 𝓤 H 𝓜 𝓖) (tablesOf 𝓤 H 𝓜 (tables 𝓤 H 𝓜 𝓡 code.env))
-    (cited 𝓤 H (lent.Aim sessionP headP u32P u64P u32P outcomeP arrivalP summaryP targetP the-call 𝓤 H (𝓖 .A)) 𝓜 𝓡 code.env #step·aimed-at tg-def.routine code.calls-step·aimed-at (tg-thm.met 𝓤 H 𝓜 𝓖 𝓡))
-    (cited 𝓤 H (lent.Sum sessionP headP u32P u64P u32P outcomeP arrivalP summaryP targetP the-call 𝓤 H (𝓖 .A)) 𝓜 𝓡 code.env #row·scan-row sc-def.routine code.calls-row·scan-row (sc-thm.met 𝓤 H 𝓜 𝓖 𝓡))
-    (cited 𝓤 H (lent.Arrive sessionP headP u32P u64P u32P outcomeP arrivalP summaryP targetP the-call 𝓤 H (𝓖 .A)) 𝓜 𝓡 code.env #korvezul·arrival ar-def.routine code.calls-korvezul·requests·arrival (ar-thm.met 𝓤 H 𝓜 𝓖 𝓡))
-    (cited 𝓤 H (lent.Run sessionP headP u32P u64P u32P outcomeP arrivalP summaryP targetP the-call 𝓤 H (𝓖 .A)) 𝓜 𝓡 code.env #row·receive-at at-def.routine code.calls-row·receive-at (at-thm.met 𝓤 H 𝓜 𝓖 𝓡))
-    (cited 𝓤 H (lent.Number sessionP headP u32P u64P u32P outcomeP arrivalP summaryP targetP the-call 𝓤 H (𝓖 .A)) 𝓜 𝓡 code.env #korvezul·number nu-def.routine code.calls-korvezul·answers·number (nu-thm.met 𝓤 H 𝓜 𝓖 𝓡)))
+    (lent.meets sessionP headP circuitP u64P u32P outcomeP arrivalP summaryP targetP the-call
+    (spelled u32P) (spelled circuitP) (spelled u64P) (spelled summaryP) (spelled arrivalP) (spelled headP) (spelled targetP) (spelled sessionP) (name-of (spelled outcomeP)) (fields-of (spelled outcomeP)) (place-in (fields-of (spelled outcomeP)) 0) refl refl
+    (u32P .typed 𝓤 H (𝓖 .A) (givenOf 𝓤 H 𝓜 𝓖)) (circuitP .typed 𝓤 H (𝓖 .A) (givenOf 𝓤 H 𝓜 𝓖)) (u64P .typed 𝓤 H (𝓖 .A) (givenOf 𝓤 H 𝓜 𝓖)) (summaryP .typed 𝓤 H (𝓖 .A) (givenOf 𝓤 H 𝓜 𝓖)) (arrivalP .typed 𝓤 H (𝓖 .A) (givenOf 𝓤 H 𝓜 𝓖)) (headP .typed 𝓤 H (𝓖 .A) (givenOf 𝓤 H 𝓜 𝓖)) (targetP .typed 𝓤 H (𝓖 .A) (givenOf 𝓤 H 𝓜 𝓖)) (outcomeP .typed 𝓤 H (𝓖 .A) (givenOf 𝓤 H 𝓜 𝓖))
+    #korvezul·aimed-by #row·scan-row #korvezul·arrival #row·receive-at #korvezul·number 𝓤 H (𝓖 .A) (givenOf 𝓤 H 𝓜 𝓖) (tablesOf 𝓤 H 𝓜 (tables 𝓤 H 𝓜 𝓡 code.env))
+    (cited 𝓤 H (lent.Aim sessionP headP circuitP u64P u32P outcomeP arrivalP summaryP targetP the-call 𝓤 H (𝓖 .A)) 𝓜 𝓡 code.env #korvezul·aimed-by tg-def.routine code.calls-korvezul·requests·aimed-by (tg-thm.met 𝓤 H 𝓜 𝓖 𝓡))
+    (cited 𝓤 H (lent.Sum sessionP headP circuitP u64P u32P outcomeP arrivalP summaryP targetP the-call 𝓤 H (𝓖 .A)) 𝓜 𝓡 code.env #row·scan-row sc-def.routine code.calls-row·scan-row (sc-thm.met 𝓤 H 𝓜 𝓖 𝓡))
+    (cited 𝓤 H (lent.Arrive sessionP headP circuitP u64P u32P outcomeP arrivalP summaryP targetP the-call 𝓤 H (𝓖 .A)) 𝓜 𝓡 code.env #korvezul·arrival ar-def.routine code.calls-korvezul·requests·arrival (ar-thm.met 𝓤 H 𝓜 𝓖 𝓡))
+    (cited 𝓤 H (lent.Run sessionP headP circuitP u64P u32P outcomeP arrivalP summaryP targetP the-call 𝓤 H (𝓖 .A)) 𝓜 𝓡 code.env #row·receive-at at-def.routine code.calls-row·receive-at (at-thm.met 𝓤 H 𝓜 𝓖 𝓡))
+    (cited 𝓤 H (lent.Number sessionP headP circuitP u64P u32P outcomeP arrivalP summaryP targetP the-call 𝓤 H (𝓖 .A)) 𝓜 𝓡 code.env #korvezul·number nu-def.routine code.calls-korvezul·answers·number (nu-thm.met 𝓤 H 𝓜 𝓖 𝓡)))
