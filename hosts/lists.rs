@@ -2,7 +2,7 @@
 //! `watch` would print it. Each list begins with an empty table and comes spelled out, as `peer spell` does it: a
 //! line has no words to be read but these, and one without words is passed over.
 //!
-//! TIME LABEL KIND [mode=NUMBER] hex [OCTETS] => ANSWER
+//! TIME LABEL KIND [mode=NUMBER] [party=NUMBER] hex [OCTETS] => ANSWER
 //! spoil PLACE FIELD VALUE
 mod korvezul;
 
@@ -38,6 +38,7 @@ fn call_of(words: &str) -> Result<Call<'_>, String> {
     for word in front {
         match word.split_once('=') {
             Some(("mode", value)) => call.mode = number(value)?,
+            Some(("party", value)) if number(value) == Ok(u32::from(label >= 500_000)) => {}
             _ => return Err(format!("no such word: {word}")),
         }
     }

@@ -5,6 +5,7 @@ use crate::edges::{self, Edge};
 use crate::make;
 use crate::mep_id::{LONGEST_VALUE, PSEUDOWIRE, SECTION};
 use crate::message::{self, Message, State};
+use crate::party::{Party, SESSIONS_OF_ONE};
 use crate::places;
 use crate::session::{Report, Session};
 use crate::table::{Answer, Table, LARGEST_READING};
@@ -25,7 +26,7 @@ const DEFECTS: [&str; 7] = [
 ];
 const EDGES: [&str; 3] = ["detection time", "misconnectivity", "condition"];
 const WAYS: [&str; 3] = ["any call", "message on it", "seen on it"];
-const EXTRAS: [&str; 19] = [
+const EXTRAS: [&str; 23] = [
     "accepted CC",
     "accepted CV",
     "accepted AIS or LKR",
@@ -45,6 +46,10 @@ const EXTRAS: [&str; 19] = [
     "accepted pseudowire with an AGI of 0",
     "accepted pseudowire with an AGI of 32",
     "accepted pseudowire with the expected numbers",
+    "opened with a discriminator that the other party has open",
+    "opened while all 32 of the other party are open",
+    "12 while the other party has fewer than 32 open",
+    "12 while the other party has 32 open",
 ];
 const ENDS: [&str; 3] = ["whole", "cut", "bad header"];
 
@@ -110,6 +115,9 @@ impl Counts {
             self.add_edges(&before, clock, record);
             self.add_accepted(&before, record);
         }
+        if record.kind == Kind::Open {
+            self.add_open(&before, record, answer.number());
+        }
         match &answer {
             Answer::Report(report) => self.add_report(report),
             Answer::Written(written) => self.add_written(written.octets()),
@@ -139,6 +147,22 @@ impl Counts {
                 }
             }
         }
+    }
+
+    /// Counts opens that the other party's sessions could have something to do with.
+    fn add_open(&mut self, before: &[Session], record: &Record, answer: u8) {
+        let party = Party::of(record.label);
+        let others = || before.iter().filter(|s| !party.owns(s.settings.label));
+        let full = others().count() == SESSIONS_OF_ONE;
+        let own = |s: &Session| {
+            record
+                .body
+                .starts_with(&s.settings.discriminator.to_be_bytes())
+        };
+        self.extras[19] += u64::from(answer == 0 && others().any(own));
+        self.extras[20] += u64::from(answer == 0 && full);
+        self.extras[21] += u64::from(answer == 12 && !full);
+        self.extras[22] += u64::from(answer == 12 && full);
     }
 
     fn add_accepted(&mut self, before: &[Session], record: &Record) {

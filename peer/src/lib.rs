@@ -22,6 +22,7 @@ pub mod message;
 pub mod morning;
 pub mod octets;
 pub mod own;
+pub mod party;
 pub mod places;
 pub mod random;
 pub mod refusal;

@@ -3,6 +3,7 @@
 
 use crate::assemble::append_line;
 use crate::capture::HEADER;
+use crate::party::FIRST_OF_THEIRS;
 use std::io::{self, Write};
 use std::str::FromStr;
 
@@ -22,7 +23,7 @@ const CCS_IN_MIX: u64 = 6;
 pub enum Load {
     /// One session that receives CCs.
     One,
-    /// 64 sessions that receive CCs in turn.
+    /// 64 sessions, 32 of each party, that receive CCs in turn.
     Many,
     /// 64 sessions: CCs, CVs, conditions that come and lapse, reports,
     /// writes and refusals. 60 stay UP, four are lost.
@@ -80,13 +81,15 @@ fn period(load: Load) -> u64 {
     }
 }
 
-fn label(session: u64) -> u64 {
-    1_000 + 37 * session
+/// Ours and theirs in turn.
+pub fn label(session: u64) -> u64 {
+    1_000 + 37 * (session / 2) + session % 2 * u64::from(FIRST_OF_THEIRS)
 }
 
-/// The local discriminator, and that of the far end.
+/// The local discriminator, which both parties give out alike, and that of the
+/// far end.
 fn own(session: u64) -> u64 {
-    17 + session
+    17 + session / 2
 }
 
 fn far(session: u64) -> u64 {

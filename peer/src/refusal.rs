@@ -6,7 +6,7 @@
 pub enum Refusal {
     /// The reading is below the clock, or above the largest reading.
     Reading = 1,
-    /// No open session has this label.
+    /// No open session has this label, or the label is another party's.
     NoSession = 2,
     /// The message is shorter than its layout needs.
     Short = 3,
@@ -23,11 +23,11 @@ pub enum Refusal {
     Fault = 8,
     /// A new condition where four already stand.
     ConditionsFull = 9,
-    /// A setting is out of range.
+    /// A setting is out of range, or the label is another party's.
     Setting = 10,
-    /// The label or the local discriminator is already open.
+    /// The label is already open, or the local discriminator in one's own party.
     AlreadyOpen = 11,
-    /// All 64 places are open.
+    /// One's own 32 sessions are open.
     TableFull = 12,
     /// A BFD message came for a locked session.
     Locked = 14,

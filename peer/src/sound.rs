@@ -2,25 +2,62 @@
 
 use crate::distinct::Distinct;
 use crate::message::State;
+use crate::party::{Party, SESSIONS_OF_ONE};
 use crate::session::{Condition, Session};
 
-/// Room for the two tests of distinctness, kept between calls.
+/// Room for the tests of distinctness, kept between calls: labels of all, and
+/// of each party its discriminators.
 #[derive(Default)]
 pub struct Scratch {
     labels: Distinct,
-    discriminators: Distinct,
+    ours: Discriminators,
+    theirs: Discriminators,
+}
+
+/// The discriminators of one party.
+#[derive(Default)]
+struct Discriminators {
+    seen: Distinct,
+    count: usize,
+}
+
+impl Discriminators {
+    fn start(&mut self) {
+        self.seen.start();
+        self.count = 0;
+    }
+
+    /// Adds one and says whether it is new and within the party's number.
+    fn add(&mut self, discriminator: u32) -> bool {
+        self.count += 1;
+        self.count <= SESSIONS_OF_ONE && self.seen.add(discriminator)
+    }
+}
+
+impl Scratch {
+    fn start(&mut self) {
+        self.labels.start();
+        self.ours.start();
+        self.theirs.start();
+    }
+
+    fn add(&mut self, session: &Session) -> bool {
+        let settings = &session.settings;
+        let own = match Party::OURS.owns(settings.label) {
+            true => &mut self.ours,
+            false => &mut self.theirs,
+        };
+        self.labels.add(settings.label) && own.add(settings.discriminator)
+    }
 }
 
 /// Whether all open sessions have their fields in range, no date above the
-/// clock, and no label or discriminator in common.
+/// clock and no label in common, and whether each party has at most 32 of them,
+/// no two with one discriminator.
 pub fn is_sound(places: &[Option<Session>], clock: u64, scratch: &mut Scratch) -> bool {
-    scratch.labels.start();
-    scratch.discriminators.start();
-    places.iter().flatten().all(|session| {
-        session_is_sound(session, clock)
-            && scratch.labels.add(session.settings.label)
-            && scratch.discriminators.add(session.settings.discriminator)
-    })
+    scratch.start();
+    let mut open = places.iter().flatten();
+    open.all(|session| session_is_sound(session, clock) && scratch.add(session))
 }
 
 /// Whether the fields of one session are in range and no date is above the clock.
@@ -68,11 +105,12 @@ mod tests {
 
     const CLOCK: u64 = 1_000;
 
+    /// The first 32 are ours, the others theirs with the same discriminators.
     fn session(number: u32) -> Session {
         let mep_id = MepId::new(0, &[0; 12]);
         let settings = Settings {
-            label: 100 + number,
-            discriminator: 1 + number,
+            label: 100 + number % 32 + number / 32 * 500_000,
+            discriminator: 1 + number % 32,
             period: 1_000,
             own: mep_id,
             expected: mep_id,
@@ -98,9 +136,17 @@ mod tests {
 
     /// The verdict on 64 sound sessions after a change to the last one.
     fn verdict(change: impl Fn(&mut Session)) -> bool {
+        verdict_on(|places| change(places[63].as_mut().unwrap()))
+    }
+
+    fn verdict_on(change: impl Fn(&mut [Option<Session>])) -> bool {
         let mut places: Vec<_> = (0..64).map(|n| Some(session(n))).collect();
-        change(places[63].as_mut().unwrap());
+        change(&mut places);
         is_sound(&places, CLOCK, &mut Scratch::default())
+    }
+
+    fn settings(places: &mut [Option<Session>], at: usize) -> &mut Settings {
+        &mut places[at].as_mut().unwrap().settings
     }
 
     #[test]
@@ -112,8 +158,43 @@ mod tests {
 
     #[test]
     fn shared_label_or_discriminator_is_found() {
-        assert!(!verdict(|s| s.settings.label = 100));
+        assert!(!verdict(|s| s.settings.label = 500_100));
         assert!(!verdict(|s| s.settings.discriminator = 1));
+        assert!(!verdict_on(|t| settings(t, 31).label = 100));
+        assert!(!verdict_on(|t| settings(t, 31).discriminator = 1));
+    }
+
+    #[test]
+    fn more_than_32_of_one_party_are_found() {
+        let moves = |from: usize, label| {
+            verdict_on(|t| {
+                settings(t, from).label = label;
+                settings(t, from).discriminator = 99;
+            })
+        };
+        assert!(!moves(63, 499_999));
+        assert!(!moves(0, 500_000));
+        assert!(moves(63, 500_000));
+        assert!(moves(0, 499_999));
+    }
+
+    /// With 31 of each the same discriminator is in order across parties alone.
+    #[test]
+    fn a_discriminator_is_shared_across_parties_alone() {
+        let opens = |label| {
+            verdict_on(|t| {
+                (t[0], t[63]) = (None, None);
+                settings(t, 40).label = 500_050;
+                settings(t, 40).discriminator = 77;
+                *settings(t, 31) = Settings {
+                    label,
+                    discriminator: 77,
+                    ..*settings(t, 31)
+                };
+            })
+        };
+        assert!(opens(499_999));
+        assert!(!opens(500_000));
     }
 
     #[test]

@@ -3,6 +3,7 @@
 use crate::capture::{Kind, Record};
 use crate::machine::Mode;
 use crate::message;
+use crate::party::{Circuit, Party, SESSIONS_OF_ONE};
 use crate::refusal::{Refusal, Refused};
 use crate::session::{Report, Session, Written};
 use crate::settings::Settings;
@@ -36,12 +37,24 @@ impl Answer {
     }
 }
 
-/// What a call may say that a record of a capture has no place for. A capture
-/// says none of it.
-#[derive(Clone, Copy, Debug, Default, PartialEq, Eq)]
+/// What a call says that a record of a capture has no place for.
+#[derive(Clone, Copy, Debug, PartialEq, Eq)]
 pub struct Beside {
     /// The mode of an open.
     pub mode: Mode,
+    /// Who calls.
+    pub party: Party,
+}
+
+impl Beside {
+    /// What the records of captures say on a label: its own party calls, and
+    /// every session is coordinated.
+    pub fn of(label: u32) -> Beside {
+        Beside {
+            mode: Mode::COORDINATED,
+            party: Party::of(label),
+        }
+    }
 }
 
 /// The sessions and the clock.
@@ -88,7 +101,7 @@ impl Table {
 
     /// Does the call of one record of a capture.
     pub fn perform(&mut self, record: &Record) -> Answer {
-        self.perform_with(record, Beside::default())
+        self.perform_with(record, Beside::of(record.label))
     }
 
     /// Does a call. Refusal 26 comes before all others.
@@ -96,17 +109,18 @@ impl Table {
         if !sound::is_sound(&self.places, self.clock, &mut self.scratch) {
             return Answer::Refused(Refusal::Table.into());
         }
-        let (time, label) = (record.time, record.label);
+        let (time, label, party) = (record.time, record.label, beside.party);
+        let circuit = Circuit { label, party };
         let answer = match record.kind {
             Kind::Tick => self.tick(time),
-            Kind::Open => self.open(time, label, record.body, beside.mode),
-            Kind::Close => self.close(time, label),
-            Kind::Lock => self.lock(time, label),
-            Kind::Unlock => self.unlock(time, label),
-            Kind::Receive => self.receive(time, label, record.body),
-            Kind::Report => self.report(label),
-            Kind::WriteCc => self.write_cc(label),
-            Kind::WriteCv => self.write_cv(label),
+            Kind::Open => self.open(time, circuit, record.body, beside.mode),
+            Kind::Close => self.close(time, circuit),
+            Kind::Lock => self.lock(time, circuit),
+            Kind::Unlock => self.unlock(time, circuit),
+            Kind::Receive => self.receive(time, circuit, record.body),
+            Kind::Report => self.report(circuit),
+            Kind::WriteCc => self.write_cc(circuit),
+            Kind::WriteCv => self.write_cv(circuit),
         };
         answer.unwrap_or_else(Answer::Refused)
     }
@@ -120,48 +134,70 @@ impl Table {
     fn open(
         &mut self,
         reading: u64,
-        label: u32,
+        circuit: Circuit,
         body: &[u8],
         mode: Mode,
     ) -> Result<Answer, Refused> {
         self.judge_reading(reading)?;
-        let settings = Settings::read_in(mode, label, body).ok_or(Refusal::Setting)?;
-        let taken = self.sessions().any(|open| {
-            open.settings.label == label || open.settings.discriminator == settings.discriminator
-        });
-        if taken {
-            return Err(Refusal::AlreadyOpen.into());
+        if !circuit.is_own() {
+            return Err(Refusal::Setting.into());
         }
-        let free = self.places.iter().position(Option::is_none);
-        let place = free.ok_or(Refusal::TableFull)?;
+        let settings = Settings::read_in(mode, circuit.label, body).ok_or(Refusal::Setting)?;
+        let place = self.place_to_open(&settings, circuit.party)?;
         self.accept(reading);
         self.places[place] = Some(Session::open(settings, reading));
         Ok(Answer::Accepted)
     }
 
-    fn close(&mut self, reading: u64, label: u32) -> Result<Answer, Refused> {
-        let place = self.place_for(reading, label)?;
+    /// The lowest free place, or refusal 11, then 12. Only the caller's own
+    /// sessions count: one of the other party has another label in any case.
+    fn place_to_open(&self, settings: &Settings, party: Party) -> Result<usize, Refusal> {
+        let own = || {
+            self.sessions()
+                .filter(|open| party.owns(open.settings.label))
+        };
+        let taken = own().any(|open| {
+            open.settings.label == settings.label
+                || open.settings.discriminator == settings.discriminator
+        });
+        if taken {
+            return Err(Refusal::AlreadyOpen);
+        }
+        if own().count() >= SESSIONS_OF_ONE {
+            return Err(Refusal::TableFull);
+        }
+        let free = self.places.iter().position(Option::is_none);
+        free.ok_or(Refusal::TableFull)
+    }
+
+    fn close(&mut self, reading: u64, circuit: Circuit) -> Result<Answer, Refused> {
+        let place = self.place_for(reading, circuit)?;
         self.accept(reading);
         self.places[place] = None;
         Ok(Answer::Accepted)
     }
 
-    fn lock(&mut self, reading: u64, label: u32) -> Result<Answer, Refused> {
-        let place = self.place_for(reading, label)?;
+    fn lock(&mut self, reading: u64, circuit: Circuit) -> Result<Answer, Refused> {
+        let place = self.place_for(reading, circuit)?;
         self.accept(reading);
         self.session_at(place)?.lock();
         Ok(Answer::Accepted)
     }
 
-    fn unlock(&mut self, reading: u64, label: u32) -> Result<Answer, Refused> {
-        let place = self.place_for(reading, label)?;
+    fn unlock(&mut self, reading: u64, circuit: Circuit) -> Result<Answer, Refused> {
+        let place = self.place_for(reading, circuit)?;
         self.accept(reading);
         self.session_at(place)?.unlock(reading);
         Ok(Answer::Accepted)
     }
 
-    fn receive(&mut self, reading: u64, label: u32, octets: &[u8]) -> Result<Answer, Refused> {
-        let place = self.place_for(reading, label)?;
+    fn receive(
+        &mut self,
+        reading: u64,
+        circuit: Circuit,
+        octets: &[u8],
+    ) -> Result<Answer, Refused> {
+        let place = self.place_for(reading, circuit)?;
         let message = message::read(octets)?.message;
         if let Some(refusal) = self.session_at(place)?.refuses(&message, reading) {
             return Err(refusal.into());
@@ -171,26 +207,25 @@ impl Table {
         Ok(Answer::Accepted)
     }
 
-    fn report(&self, label: u32) -> Result<Answer, Refused> {
-        let session = self.session(label).ok_or(Refusal::NoSession)?;
-        Ok(Answer::Report(session.report(self.clock)))
+    fn report(&mut self, circuit: Circuit) -> Result<Answer, Refused> {
+        let (place, now) = (self.place_of(circuit)?, self.clock);
+        Ok(Answer::Report(self.session_at(place)?.report(now)))
     }
 
-    fn write_cc(&mut self, label: u32) -> Result<Answer, Refused> {
-        let place = self.place_of(label)?;
-        let now = self.clock;
+    fn write_cc(&mut self, circuit: Circuit) -> Result<Answer, Refused> {
+        let (place, now) = (self.place_of(circuit)?, self.clock);
         Ok(Answer::Written(self.session_at(place)?.write_cc(now)))
     }
 
-    fn write_cv(&self, label: u32) -> Result<Answer, Refused> {
-        let session = self.session(label).ok_or(Refusal::NoSession)?;
-        Ok(Answer::Written(session.write_cv(self.clock)))
+    fn write_cv(&mut self, circuit: Circuit) -> Result<Answer, Refused> {
+        let (place, now) = (self.place_of(circuit)?, self.clock);
+        Ok(Answer::Written(self.session_at(place)?.write_cv(now)))
     }
 
     /// Refusal 1, then 2.
-    fn place_for(&self, reading: u64, label: u32) -> Result<usize, Refusal> {
+    fn place_for(&self, reading: u64, circuit: Circuit) -> Result<usize, Refusal> {
         self.judge_reading(reading)?;
-        self.place_of(label)
+        self.place_of(circuit)
     }
 
     fn judge_reading(&self, reading: u64) -> Result<(), Refusal> {
@@ -201,8 +236,10 @@ impl Table {
         }
     }
 
-    fn place_of(&self, label: u32) -> Result<usize, Refusal> {
-        let bears = |s: &Session| s.settings.label == label;
+    /// Where the session of a label is. To another party than its own the label
+    /// is not open.
+    fn place_of(&self, circuit: Circuit) -> Result<usize, Refusal> {
+        let bears = |s: &Session| circuit.is_own() && s.settings.label == circuit.label;
         let place = self
             .places
             .iter()

@@ -1,6 +1,6 @@
 //! The long captures: what they contain.
 
-use peer::load::{load, Load};
+use peer::load::{label, load, Load};
 use peer::watch;
 
 fn capture(kind: Load, count: u64) -> Vec<u8> {
@@ -10,11 +10,10 @@ fn capture(kind: Load, count: u64) -> Vec<u8> {
 }
 
 /// The text of a load, with reports of all its sessions behind it.
-fn lines(kind: Load, count: u64, sessions: u32) -> (Vec<String>, Vec<String>) {
+fn lines(kind: Load, count: u64, sessions: u64) -> (Vec<String>, Vec<String>) {
     let mut octets = capture(kind, count);
     for session in 0..sessions {
-        let label = 1_000 + 37 * session;
-        peer::capture::append_head(&mut octets, 0, label, 6, 0);
+        peer::capture::append_head(&mut octets, 0, label(session) as u32, 6, 0);
     }
     let text = String::from_utf8(watch::text(&octets)).unwrap();
     let answers = text

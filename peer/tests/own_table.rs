@@ -33,7 +33,7 @@ fn labels_that_come_and_go() {
     let mut random = Random::new(1);
     let mut capture = Capture::new();
     for time in 0..20_000 {
-        let label = random.below(120) as u32 * 37;
+        let label = random.below(60) as u32 * 37 + random.below(2) as u32 * 500_000;
         capture = match random.below(5) {
             0 | 1 => capture.open_other(time, label, 1 + random.below(200) as u32),
             2 => capture.call(Kind::Close, time, label, &[]),

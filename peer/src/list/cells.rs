@@ -46,10 +46,12 @@ impl Cells {
         Ok(())
     }
 
-    /// A tick is every session's, any other call that of its label.
+    /// A tick is every session's, any other call that of its label, if the label
+    /// is the caller's own.
     fn add_call(&mut self, table: &Table, call: &Call) {
+        let own = call.beside.party.owns(call.label);
         for session in table.sessions() {
-            if call.kind == Kind::Tick || session.settings.label == call.label {
+            if call.kind == Kind::Tick || own && session.settings.label == call.label {
                 self.add_input(session, call);
             }
         }

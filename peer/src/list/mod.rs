@@ -2,12 +2,14 @@
 //! in the notation of the captures' texts with a few words more.
 //!
 //! ```text
-//! TIME LABEL open .. mode=NUMBER => ANSWER    # remark
+//! TIME LABEL KIND .. party=NUMBER => ANSWER    # remark
+//! TIME LABEL open .. mode=NUMBER party=NUMBER => ANSWER
 //! spoil PLACE FIELD VALUE
 //! ```
 //!
-//! A list begins with an empty table. `mode=` is the mode of an open, 0 where
-//! none is named. `spoil` changes a stored session past every call.
+//! A list begins with an empty table. `party=` is who calls, the label's own
+//! party where none is named; a tick names none. `mode=` is the mode of an open,
+//! 0 where none is named. `spoil` changes a stored session past every call.
 
 mod cells;
 mod play;
@@ -16,6 +18,7 @@ mod spoil;
 use crate::assemble::{self, call_of, without_remark, Mistake, Words};
 use crate::capture::{Kind, Record};
 use crate::machine::Mode;
+use crate::party::Party;
 use crate::table::Beside;
 pub use cells::Cells;
 pub use play::{answer, play, Played};
@@ -93,12 +96,12 @@ fn answer_of(line: &str) -> Option<String> {
 }
 
 fn call(time: &str, words: &mut Words, answer: Option<String>) -> Result<Call, Mistake> {
-    let label = words.first().ok_or("no label")?;
+    let label = assemble::read(words.first().ok_or("no label")?)?;
     let kind = assemble::kind_of(words.first().ok_or("no kind")?)?;
-    let beside = beside(kind, words)?;
+    let beside = beside(label, kind, words)?;
     Ok(Call {
         time: assemble::read(time)?,
-        label: assemble::read(label)?,
+        label,
         kind,
         body: assemble::body_of(kind, words)?,
         beside,
@@ -107,12 +110,15 @@ fn call(time: &str, words: &mut Words, answer: Option<String>) -> Result<Call, M
 }
 
 /// The words of a call that a capture has none for.
-fn beside(kind: Kind, words: &mut Words) -> Result<Beside, Mistake> {
-    let mode = match kind {
-        Kind::Open => Mode(words.number("mode", Mode::COORDINATED.0)?),
-        _ => Mode::COORDINATED,
-    };
-    Ok(Beside { mode })
+fn beside(label: u32, kind: Kind, words: &mut Words) -> Result<Beside, Mistake> {
+    let mut beside = Beside::of(label);
+    if kind != Kind::Tick {
+        beside.party = Party(words.number("party", beside.party.0)?);
+    }
+    if kind == Kind::Open {
+        beside.mode = Mode(words.number("mode", beside.mode.0)?);
+    }
+    Ok(beside)
 }
 
 /// The same list line for line, for a host that reads no words: every body in
@@ -130,14 +136,15 @@ fn spelled(line: &Line) -> String {
                 time, label, body, ..
             } = call;
             let kind = assemble::name_of(call.kind);
-            let mode = match call.kind {
-                Kind::Open => format!(" mode={}", call.beside.mode.0),
-                _ => String::new(),
+            let beside = match (call.kind, call.beside.party.0) {
+                (Kind::Tick, _) => String::new(),
+                (Kind::Open, party) => format!(" mode={} party={party}", call.beside.mode.0),
+                (_, party) => format!(" party={party}"),
             };
             let hex: String = body.iter().map(|octet| format!("{octet:02x}")).collect();
             let answer = call.answer.as_ref().map(|answer| format!(" => {answer}"));
             let answer = answer.unwrap_or_default();
-            format!("{time} {label} {kind}{mode} hex {hex}{answer}")
+            format!("{time} {label} {kind}{beside} hex {hex}{answer}")
         }
     }
 }

@@ -17,6 +17,9 @@ pub struct Spoil {
 
 #[derive(Clone, Copy, Debug, PartialEq, Eq)]
 pub enum Field {
+    Label,
+    /// The local discriminator.
+    My,
     /// The remote discriminator, 0 for none.
     Remote,
     Mode,
@@ -27,7 +30,9 @@ pub enum Field {
     Timed,
 }
 
-const NAMES: [(&str, Field); 5] = [
+const NAMES: [(&str, Field); 7] = [
+    ("label", Field::Label),
+    ("my", Field::My),
     ("remote", Field::Remote),
     ("mode", Field::Mode),
     ("state", Field::State),
@@ -64,6 +69,8 @@ impl Spoil {
 
     fn change(&self, session: &mut Session) -> Option<()> {
         match self.field {
+            Field::Label => session.settings.label = u32::try_from(self.value).ok()?,
+            Field::My => session.settings.discriminator = u32::try_from(self.value).ok()?,
             Field::Remote => {
                 let remote = u32::try_from(self.value).ok()?;
                 session.remote_discriminator = (remote != 0).then_some(remote);

@@ -1,6 +1,7 @@
 //! Deterministic captures from a seed: random, but steered towards every
 //! answer, every edge and every kind of damage.
 
+mod circuits;
 mod compares;
 mod damage;
 mod draft;
@@ -14,9 +15,11 @@ mod ties;
 
 use crate::capture::{Kind, Record, HEADER};
 use crate::log::turn::log_of;
+use crate::party::SESSIONS_OF_ONE;
 use crate::random::Random;
 use crate::session::Session;
 use crate::table::{Answer, Table, LARGEST_READING};
+use circuits::Circuit;
 
 /// What a capture mostly consists of.
 #[derive(Clone, Copy, PartialEq, Eq)]
@@ -31,17 +34,6 @@ enum Style {
     Damage,
     /// Many readings at edges.
     Edges,
-}
-
-/// A circuit that the capture mostly speaks of.
-#[derive(Clone, Copy)]
-struct Circuit {
-    label: u32,
-    discriminator: u32,
-    remote: u32,
-    mep_kind: u16,
-    own: [u8; 12],
-    expected: [u8; 12],
 }
 
 /// Makes one capture. It keeps a table of its own beside it, so that it knows
@@ -142,11 +134,11 @@ impl Maker {
             Style::Edges,
         ];
         let style = random.pick(&styles);
-        let count = random.pick(&[1, 1, 2, 2, 8, 8, 64, 66, 80]);
+        let count = random.pick(&[1, 1, 2, 2, 8, 8, 33, 33, 64, 66, 80]);
         let usual = random.pick(&[1_000, 3_333, 10_000, 100_000, 1_000_000, 1_000_000]);
         let any = random.between(1_000, 10_000_000) as u32;
         let period = random.pick(&[usual, usual, usual, 10_000_000, any]);
-        let circuits = (0..count).map(|n| circuit(&mut random, n)).collect();
+        let circuits = circuits::circuits(&mut random, count);
         Maker {
             random,
             table: Table::new(),
@@ -174,7 +166,8 @@ impl Maker {
 
     /// Opens most circuits; where there are many, nearly all of them.
     fn open_at_first(&mut self) {
-        let percent = if self.circuits.len() < 64 { 92 } else { 99 };
+        let few = self.circuits.len() < SESSIONS_OF_ONE;
+        let percent = if few { 92 } else { 99 };
         for at in 0..self.circuits.len() {
             if self.random.chance(percent) {
                 let circuit = self.circuits[at];
@@ -211,12 +204,13 @@ impl Maker {
 
     /// A label that mostly is not open.
     fn odd_label(&mut self) -> u32 {
-        let labels = [0, 1, 15, 16, 17, 1_048_575, 1_048_576, u32::MAX];
+        let ours = [0, 1, 15, 16, 17, 499_999];
+        let theirs = [500_000, 1_048_575, 1_048_576, u32::MAX];
         let free = self.random.between(16, 1_048_575) as u32;
         let known = self.pick_circuit().label;
-        let odd = self.random.pick(&labels);
+        let (ours, theirs) = (self.random.pick(&ours), self.random.pick(&theirs));
         self.random
-            .pick(&[odd, odd, free, known ^ 1, known | 1 << 24])
+            .pick(&[ours, theirs, free, known ^ 1, known | 1 << 24])
     }
 
     /// A body that nobody reads: mostly empty, at times of any length.
@@ -228,31 +222,5 @@ impl Maker {
             _ => 0,
         };
         self.random.octets(length as usize)
-    }
-}
-
-/// The circuit with a number: its label, discriminators and MEP-IDs.
-fn circuit(random: &mut Random, number: u32) -> Circuit {
-    let label = match number {
-        0 => random.pick(&[16, 100, 1_048_575]),
-        1 => random.pick(&[17, 101, 1_048_574]),
-        _ => 1_000 + number,
-    };
-    let discriminator = match number {
-        0 => random.pick(&[1, 17, u32::MAX]),
-        _ => 0x0100_0000 * random.between(1, 9) as u32 + number,
-    };
-    let mut own = [0; 12];
-    own[..4].copy_from_slice(&random.pick(&[0u32, 1, 0xffff_ffff]).to_be_bytes());
-    own[11] = number as u8;
-    let mut expected = own;
-    expected[4] = 1;
-    Circuit {
-        label,
-        discriminator,
-        remote: random.pick(&[1, 2, 0x8000_0000, u32::MAX, 5_000 + number]),
-        mep_kind: random.below(2) as u16,
-        own,
-        expected,
     }
 }

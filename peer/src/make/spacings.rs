@@ -1,8 +1,9 @@
 //! Captures in which CCs come early, late, together and far apart, with what
 //! breaks a pair and what does not between them.
 
+use super::circuits::{circuits, Circuit};
 use super::scenarios::Scenario;
-use super::{circuit, Circuit, Maker, Style};
+use super::{Maker, Style};
 use crate::capture::Kind;
 use crate::random::Random;
 use crate::spacing::numbers::{Numbers, LIMIT};
@@ -41,7 +42,7 @@ impl Maker {
         let mut random = Random::new(seed ^ 0x5ac1_95ac);
         let count = random.pick(&[1, 1, 2, 3]);
         let period = random.pick(&[1_000, 3_333, 100_000, 1_000_000, 10_000_000]);
-        let circuits = (0..count).map(|n| circuit(&mut random, n)).collect();
+        let circuits = circuits(&mut random, count);
         Maker {
             random,
             style: Style::Mixed,

@@ -1,12 +1,13 @@
 //! Captures in which ends and readings tie: conditions that end together,
 //! messages at one reading, places that serve again.
 
+use super::circuits::{circuits, Circuit};
 use super::draft::{
     interface_tlv, kind_number, origin_tlvs, FaultDraft, ALARM_INDICATION, CLEAR, LINK_DOWN,
     LOCK_REPORT,
 };
 use super::scenarios::Scenario;
-use super::{circuit, Circuit, Maker, Style};
+use super::{Maker, Style};
 use crate::capture::Kind;
 use crate::message::{InterfaceId, Origin};
 use crate::random::Random;
@@ -45,7 +46,7 @@ impl Maker {
         let mut random = Random::new(!seed);
         let count = random.pick(&[1, 1, 2, 3]);
         let period = random.pick(&[1_000, 1_000, 3_333, 100_000, 1_000_000]);
-        let circuits = (0..count).map(|n| circuit(&mut random, n)).collect();
+        let circuits = circuits(&mut random, count);
         Maker {
             random,
             style: Style::Mixed,

@@ -4,6 +4,7 @@
 use super::index::Index;
 use crate::capture::{Kind, Record};
 use crate::message;
+use crate::party::{Party, SESSIONS_OF_ONE};
 use crate::refusal::{Refusal, Refused};
 use crate::session::Session;
 use crate::settings::Settings;
@@ -52,11 +53,17 @@ impl Table {
     fn open(&mut self, reading: u64, label: u32, body: &[u8]) -> Result<Answer, Refused> {
         self.judge_reading(reading)?;
         let settings = Settings::read(label, body).ok_or(Refusal::Setting)?;
-        let mut open = self.places.iter().flatten();
+        let open = self.places.iter().flatten().map(|session| session.settings);
+        let own = open.filter(|open| Party::of(open.label) == Party::of(label));
         if self.index.find(label).is_some()
-            || open.any(|session| session.settings.discriminator == settings.discriminator)
+            || own
+                .clone()
+                .any(|open| open.discriminator == settings.discriminator)
         {
             return Err(Refusal::AlreadyOpen.into());
+        }
+        if own.count() >= SESSIONS_OF_ONE {
+            return Err(Refusal::TableFull.into());
         }
         let free = self.places.iter().position(Option::is_none);
         let place = free.ok_or(Refusal::TableFull)?;
