@@ -299,13 +299,15 @@ fn open_line(t: &mut Table, w: &mut Words) -> Shown {
     Ok(Some(called(t, |t| t.open(g, reading))?.to_string()))
 }
 
-/// Labels 100, 101, .. with discriminators 1, 2, ..; the last answer stands for all.
+/// Labels 100, 101, .. with discriminators 1, 2, .. until ours are 32, then 500,100 and so on with the same
+/// discriminators; the last answer stands for all.
 fn fill_line(t: &mut Table, w: &mut Words) -> Shown {
     let (reading, count): (u64, u32) = (w.number()?, w.number()?);
     w.end()?;
     let mut answer = 0;
     for i in 0..count {
-        answer = called(t, |t| t.open(settings(100 + i, 1 + i, 1_000_000), reading))?;
+        let (n, first) = if i < 32 { (i, 100) } else { (i - 32, 500_100) };
+        answer = called(t, |t| t.open(settings(first + n, 1 + n, 1_000_000), reading))?;
     }
     Ok(Some(answer.to_string()))
 }

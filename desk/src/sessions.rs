@@ -12,6 +12,7 @@
 use crate::cli::Failure;
 use peer::capture;
 use peer::mep_id::{LSP, SECTION};
+use peer::party::Party;
 use peer::settings::{HIGHEST_LABEL, LONGEST_PERIOD, LOWEST_LABEL, SHORTEST_PERIOD};
 use peer::table::LARGEST_READING;
 use std::ops::RangeInclusive;
@@ -228,14 +229,17 @@ fn mep_id(name: &str, word: &str) -> Result<(u16, [u8; 12]), String> {
     Ok((kind, octets))
 }
 
-/// A name, label or discriminator belongs to one line alone.
+/// A name or label belongs to one line alone, and so does a discriminator within
+/// one party: the operators of the two give theirs out apart.
 fn apart(sessions: &[Session], session: &Session) -> Result<(), String> {
     for other in sessions {
         let twice = if other.name == session.name {
             "name"
         } else if other.label == session.label {
             "label"
-        } else if other.discriminator == session.discriminator {
+        } else if other.discriminator == session.discriminator
+            && Party::of(other.label) == Party::of(session.label)
+        {
             "discriminator"
         } else {
             continue;

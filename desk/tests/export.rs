@@ -132,7 +132,7 @@ fn every_length_comes_back() {
 
 #[test]
 fn a_section_and_an_epoch_come_back() {
-    let capture = make::capture(7);
+    let capture = make::capture(3);
     let all = receives(&capture);
     let (_, section, _) = all[0];
     let labels: Vec<u32> = all

@@ -171,6 +171,10 @@ fn mistakes_are_named_with_their_line() {
             "`A` has this discriminator already",
         ),
         (
+            "B label=499,999 my=1 own=1/1/1 expected=1/1/2",
+            "`A` has this discriminator already",
+        ),
+        (
             "\u{7}B label=17 my=2 own=1/1/1 expected=1/1/2",
             "session's name",
         ),
@@ -181,4 +185,14 @@ fn mistakes_are_named_with_their_line() {
             "{line}: {told}"
         );
     }
+}
+
+/// Two operators give their discriminators out apart.
+#[test]
+fn a_discriminator_stands_once_in_a_party() {
+    let line = |name, label| format!("{name} label={label} my=1 own=1/1/1 expected=1/1/2\n");
+    let both = line("A", 499_999) + &line("B", 500_000);
+    assert_eq!(parse(&both).expect("two sessions").len(), 2);
+    let told = mistake(&(both + &line("C", 1_048_575)));
+    assert_eq!(told, "line 3: `B` has this discriminator already");
 }

@@ -317,7 +317,7 @@ fn the_answers_are_those_of_watch() {
 /// Calls in order, each with what is said of its answer.
 const SAID: &str = "
 0 100 open my=17 follow-lock => accepted
-0 100 open my=18 => refused 11: label or discriminator is open already
+0 100 open my=18 => refused 11: the label is open already, or the discriminator in its party
 0 101 open my=0 => refused 10: a setting is out of range
 0 102 lock => refused 2: no open session has this label
 0 100 receive => refused 3 at 0: the message ends before its layout does

@@ -135,8 +135,8 @@ fn reason(record: &Record, number: u8, place: Option<usize>) -> Option<&'static 
         8 => fault_rule(place?),
         9 => "a new condition, and four stand already",
         10 => "a setting is out of range",
-        11 => "label or discriminator is open already",
-        12 => "all 64 places are open",
+        11 => "the label is open already, or the discriminator in its party",
+        12 => "all 32 sessions of its party are open",
         14 => "a BFD message for a locked session",
         _ => return None,
     })
