@@ -1,8 +1,9 @@
 /*
  * One call on a table of 1 or 64 open sessions, for `hosts/cost` to count: `cost CALL OPEN STATE`.
- * STATE is `usual` (labels in a row, sessions of LSPs, UP, no condition) or `worst` (labels and
- * discriminators that share one mark of the scan, sessions of pseudowires with the longest AGI, four
- * conditions standing and a crossing in each).
+ * The first 32 sessions are ours, the others theirs.
+ * STATE is `usual` (labels in a row, sessions of LSPs, UP, no condition) or `worst` (labels that share
+ * one mark of the scan, discriminators that share one in each party, sessions of pseudowires with the
+ * longest AGI, four conditions standing and a crossing in each).
  * Under valgrind the call alone is counted; without it the stack that it used is printed.
  */
 #define _DEFAULT_SOURCE
@@ -20,7 +21,8 @@ static struct korvezul_session row[KORVEZUL_RECORDS];
 static struct korvezul_head head;
 static int worst;
 static uint64_t now;
-static uint32_t last; /* the label of the last place, which every scan comes to last */
+static unsigned last_place; /* every scan comes to it last */
+static uint32_t last;       /* its label */
 static uint8_t cc[KORVEZUL_CC_OCTETS], cv[KORVEZUL_CV_OCTETS], ais[9 + 254], buffer[KORVEZUL_CV_OCTETS];
 static uint8_t configuration[40];
 static size_t cv_octets; /* of the CV that is received */
@@ -32,7 +34,11 @@ static void accepted(uint32_t answer) {
     }
 }
 
-static uint32_t label_of(unsigned i) { return worst ? 16 + 1024 * i : 100 + i; }
+/* Ours from 16 or 100 on; theirs from the first multiple of 1,024 on that is theirs, and 16 or 100. */
+static uint32_t label_of(unsigned i) {
+    uint32_t first = i < 32 ? 0 : 489 * 1024, n = i % 32;
+    return first + (worst ? 16 + 1024 * n : 100 + n);
+}
 
 static struct korvezul_mep_id mep_of(uint32_t node, uint32_t local) {
     struct korvezul_mep_id lsp = {{0, 0, 0, 0}, 7, node, local, KORVEZUL_LSP, 0, 0};
@@ -74,14 +80,15 @@ static void prepare(unsigned open) {
             write_cc(1, 3);
             receive(label_of(i), cc, sizeof cc);
         }
-        last = label_of(i);
+        last_place = i;
     }
+    last = label_of(last_place);
 }
 
 /* What is received: a CC, a CV, and the fault message with the most TLVs, all passed over. */
 static void messages(void) {
     struct korvezul_packet p = {9, last, 1000000, 1000000, 0, 0, 3, 3, 1, 0, 0, 0};
-    struct korvezul_mep_id expected = mep_of(20, (last - label_of(0)) / (worst ? 1024 : 1));
+    struct korvezul_mep_id expected = mep_of(20, last_place);
     struct korvezul_fault f = {0, 0, 0, 1, 1, 1, 20, 0, 0};
     accepted(korvezul_write_cc_message(cc, sizeof cc, p));
     accepted(korvezul_write_cv_message(cv, sizeof cv, p, expected));

@@ -276,10 +276,14 @@ static struct korvezul_mep_id some_mep(uint16_t kind) {
     return id;
 }
 
-/* One of 80, three of them often, so that some sessions are told much in a short time. */
+/* One of 80 of a party, three of them often, so that some sessions are told much in a short time. */
 static uint32_t some_label(void) {
-    return once_in(50) ? (uint32_t)any() : 16 + (uint32_t)below(once_in(2) ? 3 : 80);
+    uint32_t first = once_in(2) ? 16 : 500000;
+    return once_in(50) ? (uint32_t)any() : first + (uint32_t)below(once_in(2) ? 3 : 80);
 }
+
+/* The discriminator that a label mostly has; both parties give out the same. */
+static uint32_t usual_discriminator(uint32_t label) { return label < 500000 ? label : label - 500000 + 16; }
 
 static uint16_t some_kind(void) { return (uint16_t)(once_in(30) ? below(5) : below(3)); }
 
@@ -291,7 +295,7 @@ static struct korvezul_settings some_settings(uint32_t label, int as_watch) {
     uint16_t kind = (uint16_t)(once_in(30) ? below(4) : below(2));
     memset(&s, 0, sizeof s);
     s.label = label;
-    s.discriminator = once_in(40) ? 0 : once_in(8) ? 1 + (uint32_t)below(90) : label;
+    s.discriminator = once_in(40) ? 0 : once_in(8) ? 1 + (uint32_t)below(90) : usual_discriminator(label);
     s.period = once_in(40) ? (uint32_t)any() : once_in(2) ? 1000 : 1000000;
     s.own = some_mep(as_watch ? kind : some_kind());
     s.expected = some_mep(as_watch ? kind : some_kind());
@@ -360,7 +364,7 @@ static size_t plain_message(uint8_t *o, uint32_t label) {
     struct korvezul_packet p = some_packet();
     struct korvezul_mep_id id = some_mep((uint16_t)below(3));
     if (!once_in(8))
-        p.your = label;
+        p.your = usual_discriminator(label);
     switch (below(6)) {
     case 0: return korvezul_write_cv_message(o, 128, p, id) == 0 ? cv_size(&id) : 0;
     case 1:
