@@ -2,7 +2,7 @@
  * What crosses between a host and the library, held to this header from outside: the version, every
  * field of a record and of a message at its place, why a session is as it is, where each reader says that
  * a message went wrong, each mark and each number that a writer must refuse, MEP-IDs of every form, rows
- * of another length lent to each call, configurations, and the records of a log.
+ * of another length lent to each call, calls in the name of each party, configurations, and the records of a log.
  * hosts/run compares what is printed with hosts/timeline-boundary.
  */
 #include <inttypes.h>
@@ -20,7 +20,7 @@ static void need(int holds, const char *what) {
 }
 
 static void check_version(void) {
-    need(KORVEZUL_VERSION == 0x050200, "version of the header");
+    need(KORVEZUL_VERSION == 0x060000, "version of the header");
     need(korvezul_version() == KORVEZUL_VERSION, "version of the library");
     printf("version %d.%d.%d: header and library agree\n", KORVEZUL_VERSION_MAJOR, KORVEZUL_VERSION_MINOR,
            KORVEZUL_VERSION_PATCH);
@@ -57,7 +57,7 @@ static const struct korvezul_settings told = {{{UINT64_C(0x8081828384858687), UI
 static void check_opened(void) {
     memset(row, 0xa5, sizeof row);
     need(korvezul_empty(row, KORVEZUL_RECORDS, &head) == 0, "empty");
-    need(korvezul_open(row, KORVEZUL_RECORDS, &head, told, 0x010203) == 0, "open");
+    need(korvezul_open(row, KORVEZUL_RECORDS, &head, korvezul_opened_by_us(told), 0x010203) == 0, "open");
     need(head.clock == 0x010203 && head.occupied == 1, "head");
     need(memcmp(&row[0].settings, &told, offsetof(struct korvezul_settings, mode) + 1) == 0, "settings");
     need(row[0].timed == 0x010203 && row[0].state == 1 && row[0].crossing == 0, "timed, state, crossing");
@@ -69,7 +69,8 @@ static void check_heard(struct korvezul_packet p) {
     const struct korvezul_peer *peer = &row[0].peer;
     uint8_t m[KORVEZUL_CC_OCTETS];
     need(korvezul_write_cc_message(m, sizeof m, p) == 0, "CC");
-    need(korvezul_receive(row, KORVEZUL_RECORDS, &head, told.label, m, sizeof m, 0x010204) == 0, "heard CC");
+    need(korvezul_receive(row, KORVEZUL_RECORDS, &head, korvezul_ours(told.label), m, sizeof m, 0x010204) == 0,
+         "heard CC");
     need(row[0].timed == 0x010204 && row[0].state == 2, "timed, state of one that heard");
     need(peer->remote == p.my && peer->multiplier == 5 && peer->diagnostic == 9 && peer->owed == 1, "peer");
 }
@@ -78,7 +79,8 @@ static void check_taken(struct korvezul_fault f) {
     const struct korvezul_condition *c = row[0].conditions;
     uint8_t m[KORVEZUL_FAULT_OCTETS];
     need(korvezul_write_fault_message(m, sizeof m, f) == 0, "LKR");
-    need(korvezul_receive(row, KORVEZUL_RECORDS, &head, told.label, m, sizeof m, 0x010205) == 0, "taken LKR");
+    need(korvezul_receive(row, KORVEZUL_RECORDS, &head, korvezul_ours(told.label), m, sizeof m, 0x010205) == 0,
+         "taken LKR");
     need(c[0].at == 0x010205 && c[0].refresh == 20 && c[0].link_down == 1, "condition");
     need(c[0].key.node == f.node && c[0].key.interface_number == f.interface_number, "IF_ID of a key");
     need(c[0].key.global == f.global && c[0].key.carrier == 1, "Global_ID of a key");
@@ -90,7 +92,7 @@ static void check_taken(struct korvezul_fault f) {
 static struct korvezul_cause asked(uint8_t thing, struct korvezul_key key) {
     struct korvezul_question q;
     memset(&q, 0xa5, sizeof q);
-    q.label = told.label;
+    q.circuit = korvezul_ours(told.label);
     q.key = key;
     q.thing = thing;
     return korvezul_why(row, KORVEZUL_RECORDS, &head, q);
@@ -132,7 +134,7 @@ static void check_layout(void) {
     check_taken(f);
     p.your = 1;
     need(korvezul_write_cc_message(m, sizeof m, p) == 0, "crossed CC");
-    need(korvezul_receive(row, KORVEZUL_RECORDS, &head, told.label, m, sizeof m, 0x010206) == 0,
+    need(korvezul_receive(row, KORVEZUL_RECORDS, &head, korvezul_ours(told.label), m, sizeof m, 0x010206) == 0,
          "crossed CC taken");
     need(row[0].crossed == 0x010206 && row[0].crossing == 1, "crossed, crossing");
     printf("every field of a record is where the header has it\n");
@@ -219,11 +221,12 @@ static void check_pseudowire(uint8_t n) {
          "CV of a pseudowire read");
     need_pseudowire(&v.mep, n);
     need(korvezul_empty(row, KORVEZUL_RECORDS, &head) == 0, "empty");
-    need(korvezul_open(row, KORVEZUL_RECORDS, &head, s, 0) == 0, "pseudowire opened");
+    need(korvezul_open(row, KORVEZUL_RECORDS, &head, korvezul_opened_by_us(s), 0) == 0, "pseudowire opened");
     memset(m, 0xa5, sizeof m);
-    need(korvezul_write_cv(row, KORVEZUL_RECORDS, &head, 100, m, size - 1) == KORVEZUL_BUFFER && m[0] == 0xa5,
+    need(korvezul_write_cv(row, KORVEZUL_RECORDS, &head, korvezul_ours(100), m, size - 1) == KORVEZUL_BUFFER &&
+             m[0] == 0xa5,
          "CV of a session, too long");
-    need(korvezul_write_cv(row, KORVEZUL_RECORDS, &head, 100, m, size) == 0, "CV of a session");
+    need(korvezul_write_cv(row, KORVEZUL_RECORDS, &head, korvezul_ours(100), m, size) == 0, "CV of a session");
     need(memcmp(m + 28, o, part) == 0 && m[size] == 0xa5, "octets of a session's MEP-ID");
 }
 
@@ -355,7 +358,7 @@ static uint32_t ais(void) { return held(korvezul_write_fault_message(buffer, siz
 
 static uint32_t opening(void) {
     need(korvezul_empty(row, KORVEZUL_RECORDS, &head) == 0, "empty");
-    return korvezul_open(row, KORVEZUL_RECORDS, &head, settings, 0);
+    return korvezul_open(row, KORVEZUL_RECORDS, &head, korvezul_opened_by_us(settings), 0);
 }
 
 /* The answers to a mark, or a mode, of 0, 1, 2, 3 and 255. */
@@ -447,8 +450,8 @@ static void absent(void) {
     behind("Global_ID", &fault.global, &fault.has_global_id);
 }
 
-/* The calls on a table, each accepted on that of `kept`: a session of label 100 that is crossed, and its
- * CC. */
+/* The calls on a table, each accepted on that of `kept`: a session of each party that is crossed, both with
+ * one discriminator, and its CC. */
 struct table {
     struct korvezul_session row[KORVEZUL_RECORDS + 1];
     struct korvezul_head head;
@@ -456,72 +459,105 @@ struct table {
 };
 
 static struct table kept, lent;
-static const struct korvezul_settings other = {
+static const struct korvezul_settings usual = {
     .own = {.kind = KORVEZUL_LSP, .global = 7, .node = 10, .local = 1},
     .expected = {.kind = KORVEZUL_LSP, .global = 7, .node = 20, .local = 1},
-    .label = 101,
-    .discriminator = 18,
+    .discriminator = 17,
     .period = 1000000};
 static uint8_t message[KORVEZUL_CC_OCTETS];
+/* what the calls are on: of the label before it an open session */
+static struct korvezul_circuit circuit;
 
 #define LENT(records) lent.row, records, &lent.head
 static uint32_t empty(size_t n) { return korvezul_empty(LENT(n)); }
 static uint32_t tick(size_t n) { return korvezul_tick(LENT(n), 1); }
-static uint32_t open_other(size_t n) { return korvezul_open(LENT(n), other, 1); }
-static uint32_t close_it(size_t n) { return korvezul_close(LENT(n), 100, 1); }
-static uint32_t lock(size_t n) { return korvezul_lock(LENT(n), 100, 1); }
-static uint32_t unlock(size_t n) { return korvezul_unlock(LENT(n), 100, 1); }
-static uint32_t receive(size_t n) { return korvezul_receive(LENT(n), 100, message, sizeof message, 1); }
-static uint32_t report(size_t n) { return korvezul_report(LENT(n), 100).answer; }
+static uint32_t open_next(size_t n) {
+    struct korvezul_opening opening = {.settings = usual, .party = circuit.party};
+    opening.settings.label = circuit.label + 1;
+    opening.settings.discriminator++;
+    return korvezul_open(LENT(n), opening, 1);
+}
+static uint32_t close_it(size_t n) { return korvezul_close(LENT(n), circuit, 1); }
+static uint32_t lock(size_t n) { return korvezul_lock(LENT(n), circuit, 1); }
+static uint32_t unlock(size_t n) { return korvezul_unlock(LENT(n), circuit, 1); }
+static uint32_t receive(size_t n) { return korvezul_receive(LENT(n), circuit, message, sizeof message, 1); }
+static uint32_t report(size_t n) { return korvezul_report(LENT(n), circuit).answer; }
 static uint32_t why(size_t n) {
-    static const struct korvezul_question crossing = {.label = 100, .thing = KORVEZUL_A_CROSSING};
+    struct korvezul_question crossing = {.circuit = circuit, .thing = KORVEZUL_A_CROSSING};
     return korvezul_why(LENT(n), crossing).answer;
 }
 static uint32_t write_cc(size_t n) {
-    return korvezul_write_cc(LENT(n), 100, lent.buffer, sizeof lent.buffer);
+    return korvezul_write_cc(LENT(n), circuit, lent.buffer, sizeof lent.buffer);
 }
 static uint32_t write_cv(size_t n) {
-    return korvezul_write_cv(LENT(n), 100, lent.buffer, sizeof lent.buffer);
+    return korvezul_write_cv(LENT(n), circuit, lent.buffer, sizeof lent.buffer);
 }
 
 static const struct {
     const char *name;
     uint32_t (*call)(size_t);
-} calls[] = {{"empty", empty},       {"tick", tick},        {"open", open_other}, {"close", close_it},
-             {"lock", lock},         {"unlock", unlock},    {"receive", receive}, {"report", report},
+} calls[] = {{"empty", empty},       {"tick", tick},         {"open", open_next},  {"close", close_it},
+             {"lock", lock},         {"unlock", unlock},     {"receive", receive}, {"report", report},
              {"write CC", write_cc}, {"write CV", write_cv}, {"why", why}};
+#define NAMES_NONE 2 /* the first two name no party */
+
+static void opened_and_crossed(struct korvezul_circuit on) {
+    struct korvezul_opening opening = {.settings = usual, .party = on.party};
+    opening.settings.label = on.label;
+    need(korvezul_open(kept.row, KORVEZUL_RECORDS, &kept.head, opening, 0) == 0, "open");
+    need(korvezul_receive(kept.row, KORVEZUL_RECORDS, &kept.head, on, message, sizeof message, 0) == 0,
+         "crossed CC taken");
+}
 
 static void prepare(void) {
-    struct korvezul_settings s = other;
-    s.label = 100;
-    s.discriminator = 17;
     memset(&kept, 0xa5, sizeof kept);
     need(korvezul_empty(kept.row, KORVEZUL_RECORDS, &kept.head) == 0, "empty");
-    need(korvezul_open(kept.row, KORVEZUL_RECORDS, &kept.head, s, 0) == 0, "open");
-    packet.your = s.discriminator + 1;
+    packet.your = usual.discriminator + 1;
     need(korvezul_write_cc_message(message, sizeof message, packet) == 0, "crossed CC");
-    need(korvezul_receive(kept.row, KORVEZUL_RECORDS, &kept.head, 100, message, sizeof message, 0) == 0,
-         "crossed CC taken");
-    packet.your = s.discriminator;
+    opened_and_crossed(korvezul_ours(100));
+    opened_and_crossed(korvezul_theirs(500100));
+    packet.your = usual.discriminator;
     need(korvezul_write_cc_message(message, sizeof message, packet) == 0, "CC");
+}
+
+/* A call on a copy of `kept`; beside a refusal no byte of it changes. */
+static uint32_t called(size_t k, size_t records) {
+    uint32_t answer;
+    memcpy(&lent, &kept, sizeof kept);
+    answer = calls[k].call(records);
+    need(answer == KORVEZUL_ACCEPTED || memcmp(&lent, &kept, sizeof kept) == 0, "a byte beside a refusal");
+    return answer;
 }
 
 /* Each call on a row of another length is answered 26 and changes no byte; of 64 it is accepted. */
 static void rows(void) {
     static const size_t lengths[] = {0, KORVEZUL_RECORDS - 1, KORVEZUL_RECORDS + 1, KORVEZUL_RECORDS};
     prepare();
+    circuit = korvezul_ours(100);
     for (size_t k = 0; k < sizeof calls / sizeof *calls; k++) {
         printf("%s on a row of 0, 63, 65, 64:", calls[k].name);
-        for (size_t i = 0; i < sizeof lengths / sizeof *lengths; i++) {
-            uint32_t answer;
-            memcpy(&lent, &kept, sizeof kept);
-            answer = calls[k].call(lengths[i]);
-            printf(" %" PRIu32, answer);
-            need(answer == KORVEZUL_ACCEPTED || memcmp(&lent, &kept, sizeof kept) == 0,
-                 "a byte beside a refusal");
-        }
+        for (size_t i = 0; i < sizeof lengths / sizeof *lengths; i++)
+            printf(" %" PRIu32, called(k, lengths[i]));
         printf("\n");
     }
+}
+
+/* Each call that names a party, on a label of ours and on one of theirs: no other than its own party sees
+ * the label, and 256 is another number than 0. */
+static void parties(void) {
+    static const uint32_t labels[] = {100, 500100}, numbers[] = {0, 1, 2, 256, 257, UINT32_MAX};
+    need(korvezul_party_of(499999) == KORVEZUL_OURS && korvezul_party_of(500000) == KORVEZUL_THEIRS,
+         "whose label it is");
+    for (size_t k = NAMES_NONE; k < sizeof calls / sizeof *calls; k++)
+        for (size_t i = 0; i < sizeof labels / sizeof *labels; i++) {
+            printf("%s, %" PRIu32 ", by 0, 1, 2, 256, 257, 4294967295:", calls[k].name, labels[i]);
+            circuit.label = labels[i];
+            for (size_t j = 0; j < sizeof numbers / sizeof *numbers; j++) {
+                circuit.party = numbers[j];
+                printf(" %" PRIu32, called(k, KORVEZUL_RECORDS));
+            }
+            printf("\n");
+        }
 }
 
 /* Each number from 0 to 27 that has a name. */
@@ -533,6 +569,8 @@ static void names(void) {
         printf("state %" PRIu32 " %s\n", i, korvezul_state_name(i));
     for (uint32_t i = 0; i <= 3; i++)
         printf("mode %" PRIu32 " %s\n", i, korvezul_mode_name(i));
+    for (uint32_t i = 0; i <= 2; i++)
+        printf("party %" PRIu32 " %s\n", i, korvezul_party_name(i));
 }
 
 /* A configuration with every octet of its two numbers another, written and read, and each answer of
@@ -713,6 +751,8 @@ int main(void) {
     absent();
     headline("rows of another length");
     rows();
+    headline("parties");
+    parties();
     headline("configurations");
     configurations();
     headline("records of a log");

@@ -142,7 +142,7 @@ static void tick(struct end *e) {
 }
 
 static void report(struct end *e) {
-    struct korvezul_report_answer r = korvezul_report(e->row, KORVEZUL_RECORDS, &e->head, e->label);
+    struct korvezul_report_answer r = korvezul_report(e->row, KORVEZUL_RECORDS, &e->head, korvezul_ours(e->label));
     said(e, "report", e->label, logged(e, KORVEZUL_CALL_REPORT, e->label, r.answer));
     if (r.answer == KORVEZUL_ACCEPTED)
         printf("           %s, crossing %d, loss %d, alarm %d, RDI %d, blocked %d, conditions %d\n",
@@ -150,28 +150,28 @@ static void report(struct end *e) {
 }
 
 static void receive(struct end *e, const uint8_t *message, size_t n) {
-    uint32_t answer = korvezul_receive(e->row, KORVEZUL_RECORDS, &e->head, e->label, message, n, now);
+    uint32_t answer = korvezul_receive(e->row, KORVEZUL_RECORDS, &e->head, korvezul_ours(e->label), message, n, now);
     said(e, "receive", e->label, logged_message(e, KORVEZUL_CALL_RECEIVE, e->label, answer, message, n));
 }
 
 static void lock(struct end *e) {
-    uint32_t answer = korvezul_lock(e->row, KORVEZUL_RECORDS, &e->head, e->label, now);
+    uint32_t answer = korvezul_lock(e->row, KORVEZUL_RECORDS, &e->head, korvezul_ours(e->label), now);
     said(e, "lock", e->label, logged(e, KORVEZUL_CALL_LOCK, e->label, answer));
 }
 
 static void unlock(struct end *e) {
-    uint32_t answer = korvezul_unlock(e->row, KORVEZUL_RECORDS, &e->head, e->label, now);
+    uint32_t answer = korvezul_unlock(e->row, KORVEZUL_RECORDS, &e->head, korvezul_ours(e->label), now);
     said(e, "unlock", e->label, logged(e, KORVEZUL_CALL_UNLOCK, e->label, answer));
 }
 
 /* Close, of the first records of the row. */
 static void close_of(struct end *e, size_t records) {
-    uint32_t answer = korvezul_close(e->row, records, &e->head, e->label, now);
+    uint32_t answer = korvezul_close(e->row, records, &e->head, korvezul_ours(e->label), now);
     said(e, "close", e->label, logged(e, KORVEZUL_CALL_CLOSE, e->label, answer));
 }
 
 static uint32_t write_cv(struct end *e, uint32_t label, uint8_t *m, size_t n) {
-    uint32_t answer = korvezul_write_cv(e->row, KORVEZUL_RECORDS, &e->head, label, m, n);
+    uint32_t answer = korvezul_write_cv(e->row, KORVEZUL_RECORDS, &e->head, korvezul_ours(label), m, n);
     said(e, "write CV", label, logged(e, KORVEZUL_CALL_WRITE_CV, label, answer));
     return answer;
 }
@@ -181,7 +181,7 @@ static void pass_cc(struct end *from, struct end *to) {
     uint8_t m[KORVEZUL_CC_OCTETS];
     uint32_t answer;
     tick(from);
-    answer = korvezul_write_cc(from->row, KORVEZUL_RECORDS, &from->head, from->label, m, sizeof m);
+    answer = korvezul_write_cc(from->row, KORVEZUL_RECORDS, &from->head, korvezul_ours(from->label), m, sizeof m);
     said(from, "write CC", from->label, logged(from, KORVEZUL_CALL_WRITE_CC, from->label, answer));
     if (answer == KORVEZUL_ACCEPTED) {
         octets(m, sizeof m);
@@ -236,9 +236,10 @@ static void open_in_mode(struct end *e, uint32_t label, uint32_t discriminator, 
                                   .follow_link = 1,
                                   .follow_lock = 0,
                                   .mode = mode};
+    uint32_t answer = korvezul_open(e->row, KORVEZUL_RECORDS, &e->head, korvezul_opened_by_us(s), now);
     if (mode != KORVEZUL_COORDINATED)
         snprintf(call, sizeof call, "open as %s", korvezul_mode_name(mode));
-    said(e, call, label, logged_open(e, s, korvezul_open(e->row, KORVEZUL_RECORDS, &e->head, s, now)));
+    said(e, call, label, logged_open(e, s, answer));
 }
 
 static void open_session(struct end *e, uint32_t label, uint32_t discriminator, struct korvezul_mep_id own,

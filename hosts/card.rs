@@ -72,7 +72,7 @@ impl End {
     fn open_in_mode(&mut self, now: u64, label: u32, discriminator: u32, ends: [MepId; 2], mode: u8) {
         let ([own, expected], period) = (ends, 1000000);
         let settings = Settings { own, expected, label, discriminator, period, follow_link: 1, follow_lock: 0, mode };
-        let answer = self.table.open(settings, now);
+        let answer = self.table.open(opened_by_us(settings), now);
         self.log.open(settings, now, answer);
         let as_what = if mode == COORDINATED { String::new() } else { format!(" as {}", mode_name(mode)) };
         self.said(now, &format!("open{as_what} {label}"), answer);
@@ -86,7 +86,7 @@ impl End {
         self.said(now, "tick", answer);
     }
     fn report(&mut self, now: u64) {
-        let r = self.table.report(self.label);
+        let r = self.table.report(ours(self.label));
         self.logged(now, REPORT, self.label, r.answer, &[]);
         self.said(now, &format!("report {}", self.label), r.answer);
         if r.answer == 0 {
@@ -98,12 +98,12 @@ impl End {
         }
     }
     fn receive(&mut self, now: u64, message: &[u8]) {
-        let answer = self.table.receive(self.label, message, now);
+        let answer = self.table.receive(ours(self.label), message, now);
         self.logged(now, RECEIVE, self.label, answer, message);
         self.said(now, &format!("receive {}", self.label), answer);
     }
     fn write_cv(&mut self, now: u64, label: u32, buffer: &mut [u8]) -> u32 {
-        let answer = self.table.write_cv(label, buffer);
+        let answer = self.table.write_cv(ours(label), buffer);
         self.logged(now, WRITE_CV, label, answer, &[]);
         self.said(now, &format!("write CV {label}"), answer);
         answer
@@ -118,7 +118,7 @@ fn octets(o: &[u8]) {
 fn pass_cc(now: u64, from: &mut End, to: &mut End) {
     let mut m = [0; 28];
     from.tick(now);
-    let answer = from.table.write_cc(from.label, &mut m);
+    let answer = from.table.write_cc(ours(from.label), &mut m);
     from.logged(now, WRITE_CC, from.label, answer, &[]);
     from.said(now, &format!("write CC {}", from.label), answer);
     if answer == 0 {
@@ -214,10 +214,10 @@ fn check_layout() {
     };
     let mut t = Table::new();
     let mut m = [0; 28];
-    assert_eq!((t.empty(), t.open(settings, 0x010203)), (0, 0));
-    assert_eq!((write_cc_message(&mut m, heard), t.receive(settings.label, &m, 0x010204)), (0, 0));
-    assert_eq!((write_fault_message(&mut m, lkr), t.receive(settings.label, &m[..25], 0x010205)), (0, 0));
-    assert_eq!((write_cc_message(&mut m, crossed), t.receive(settings.label, &m, 0x010206)), (0, 0));
+    assert_eq!((t.empty(), t.open(opened_by_us(settings), 0x010203)), (0, 0));
+    assert_eq!((write_cc_message(&mut m, heard), t.receive(ours(settings.label), &m, 0x010204)), (0, 0));
+    assert_eq!((write_fault_message(&mut m, lkr), t.receive(ours(settings.label), &m[..25], 0x010205)), (0, 0));
+    assert_eq!((write_cc_message(&mut m, crossed), t.receive(ours(settings.label), &m, 0x010206)), (0, 0));
     let key = Key { node: lkr.node, interface: lkr.interface, global: lkr.global, kind: 2, present: 1, carrier: 1 };
     let mut conditions = [Condition::default(); 4];
     conditions[0] = Condition { at: 0x010205, key, refresh: 20, link_down: 1 };
@@ -305,7 +305,7 @@ fn check_rows() {
     let settings = Settings { label: 100, discriminator: 17, period: 1000000, ..Settings::default() };
     let other = Settings { label: 101, discriminator: 18, ..settings };
     let mut table = Table::new();
-    assert_eq!((table.empty(), table.open(settings, 0)), (0, 0));
+    assert_eq!((table.empty(), table.open(opened_by_us(settings), 0)), (0, 0));
     let kept = [table.row.as_slice(), &[Session::default()]].concat();
     for records in [0, RECORDS - 1, RECORDS + 1] {
         let (mut row, mut head, mut buffer) = (kept.clone(), table.head, [0xa5; 44]);
@@ -314,14 +314,14 @@ fn check_rows() {
             [
                 korvezul_empty(r, records, h),
                 korvezul_tick(r, records, h, 1),
-                korvezul_open(r, records, h, other, 1),
-                korvezul_close(r, records, h, 100, 1),
-                korvezul_lock(r, records, h, 100, 1),
-                korvezul_unlock(r, records, h, 100, 1),
-                korvezul_receive(r, records, h, 100, b, 44, 1),
-                korvezul_report(r, records, h, 100).answer,
-                korvezul_write_cc(r, records, h, 100, b, 44),
-                korvezul_write_cv(r, records, h, 100, b, 44),
+                korvezul_open(r, records, h, opened_by_us(other), 1),
+                korvezul_close(r, records, h, ours(100), 1),
+                korvezul_lock(r, records, h, ours(100), 1),
+                korvezul_unlock(r, records, h, ours(100), 1),
+                korvezul_receive(r, records, h, ours(100), b, 44, 1),
+                korvezul_report(r, records, h, ours(100)).answer,
+                korvezul_write_cc(r, records, h, ours(100), b, 44),
+                korvezul_write_cv(r, records, h, ours(100), b, 44),
             ]
         };
         assert_eq!(answers, [26; 10]);
@@ -444,13 +444,13 @@ fn cut(a: &mut End, b: &mut End) {
 
 fn lock_and_unlock(a: &mut End, b: &mut End) {
     println!("-- A is locked: B hears ADMIN DOWN, and A takes no BFD message");
-    let answer = a.table.lock(100, 18000000);
+    let answer = a.table.lock(ours(100), 18000000);
     a.logged(18000000, LOCK, 100, answer, &[]);
     a.said(18000000, "lock 100", answer);
     both(18000000, a, b);
     both_report(18000000, a, b);
     println!("-- and unlocked");
-    let answer = a.table.unlock(100, 18000000);
+    let answer = a.table.unlock(ours(100), 18000000);
     a.logged(18000000, UNLOCK, 100, answer, &[]);
     a.said(18000000, "unlock 100", answer);
     exchange(18000000, 20000000, a, b);
@@ -484,7 +484,7 @@ fn over_a_pseudowire(a: &mut End, b: &mut End) {
 /// Close, of the first records of the row.
 fn close_of(table: &mut Table, records: usize, label: u32, reading: u64) -> u32 {
     let row = &mut table.row[..records];
-    unsafe { korvezul_close(row.as_mut_ptr(), row.len(), &mut table.head, label, reading) }
+    unsafe { korvezul_close(row.as_mut_ptr(), row.len(), &mut table.head, ours(label), reading) }
 }
 
 fn refusals(a: &mut End) {

@@ -47,6 +47,13 @@ impl<'a> Words<'a> {
     fn number<N: TryFrom<u64>>(&mut self) -> Result<N, String> {
         number_of(self.word()?)
     }
+    /// A label in the hands of its own party, or `LABEL/PARTY`.
+    fn circuit(&mut self) -> Result<Circuit, String> {
+        let word = self.word()?;
+        let (label, party) = word.split_once('/').map_or((word, None), |(label, party)| (label, Some(party)));
+        let label = number_of(label)?;
+        Ok(Circuit { label, party: party.map_or(Ok(party_of(label)), number_of)? })
+    }
     /// 0 for a number that is left out at the end.
     fn number_or_0<N: TryFrom<u64>>(&mut self) -> Result<N, String> {
         if self.0.len() == 0 {
@@ -237,9 +244,9 @@ fn seven(r: ReportAnswer) -> String {
 }
 
 /// A report; one that is refused has noughts, and changes nothing.
-fn reported(t: &mut Table, label: u32) -> Result<(u32, String), String> {
+fn reported(t: &mut Table, circuit: Circuit) -> Result<(u32, String), String> {
     let before = t.clone();
-    let r = t.report(label);
+    let r = t.report(circuit);
     if *t != before {
         return Err("a report changed the table".to_string());
     }
@@ -252,13 +259,13 @@ fn reported(t: &mut Table, label: u32) -> Result<(u32, String), String> {
 
 /// Reading, age and end of what is asked about; noughts where it is refused. It changes nothing.
 fn why(t: &mut Table, w: &mut Words) -> Result<(u32, String), String> {
-    let (label, thing) = (w.number()?, w.number()?);
+    let (circuit, thing) = (w.circuit()?, w.number()?);
     let (kind, present) = (w.number_or_0()?, w.number_or_0()?);
     let (node, interface) = (w.number_or_0()?, w.number_or_0()?);
     let (carrier, global) = (w.number_or_0()?, w.number_or_0()?);
     let key = Key { node, interface, global, kind, present, carrier };
     let before = t.clone();
-    let c = t.why(Question { label, key, thing });
+    let c = t.why(Question { circuit, key, thing });
     if *t != before || c.head != t.head {
         return Err("a question changed the table".to_string());
     }
@@ -277,11 +284,11 @@ fn own_of(t: &Table, label: u32) -> MepId {
 }
 
 /// What is written into a buffer of ee: the message, behind which nothing is touched, or nothing.
-fn written(t: &mut Table, word: &str, label: u32, room: usize) -> Result<(u32, String), String> {
+fn written(t: &mut Table, word: &str, circuit: Circuit, room: usize) -> Result<(u32, String), String> {
     let mut buffer = vec![0xee; room];
     let (size, answer) = match word {
-        "write-cc" => (28, called(t, |t| t.write_cc(label, &mut buffer))?),
-        _ => (cv_size(own_of(t, label)), called(t, |t| t.write_cv(label, &mut buffer))?),
+        "write-cc" => (28, called(t, |t| t.write_cc(circuit, &mut buffer))?),
+        _ => (cv_size(own_of(t, circuit.label)), called(t, |t| t.write_cv(circuit, &mut buffer))?),
     };
     let size = if answer == 0 { size } else { 0 };
     if buffer[size..].iter().any(|o| *o != 0xee) {
@@ -293,10 +300,10 @@ fn written(t: &mut Table, word: &str, label: u32, room: usize) -> Result<(u32, S
 // The table: every call on a table, and what a broken host does to row and head past every call.
 
 fn open_line(t: &mut Table, w: &mut Words) -> Shown {
-    let reading = w.number()?;
-    let g = settings(w.number()?, w.number()?, w.number()?);
-    let g = settings_by(g, w)?;
-    Ok(Some(called(t, |t| t.open(g, reading))?.to_string()))
+    let (reading, Circuit { label, party }) = (w.number()?, w.circuit()?);
+    let g = settings(label, w.number()?, w.number()?);
+    let opening = Opening { settings: settings_by(g, w)?, party };
+    Ok(Some(called(t, |t| t.open(opening, reading))?.to_string()))
 }
 
 /// Labels 100, 101, .. with discriminators 1, 2, .. until ours are 32, then 500,100 and so on with the same
@@ -306,8 +313,11 @@ fn fill_line(t: &mut Table, w: &mut Words) -> Shown {
     w.end()?;
     let mut answer = 0;
     for i in 0..count {
-        let (n, first) = if i < 32 { (i, 100) } else { (i - 32, 500_100) };
-        answer = called(t, |t| t.open(settings(first + n, 1 + n, 1_000_000), reading))?;
+        let ours = i < PARTY_SESSIONS;
+        let (n, first) = if ours { (i, 100) } else { (i - PARTY_SESSIONS, FIRST_OF_THEIRS + 100) };
+        let g = settings(first + n, 1 + n, 1_000_000);
+        let opening = if ours { opened_by_us(g) } else { opened_by_them(g) };
+        answer = called(t, |t| t.open(opening, reading))?;
     }
     Ok(Some(answer.to_string()))
 }
@@ -375,16 +385,16 @@ fn places_line(t: &Table, w: &mut Words) -> Shown {
 
 /// A call that has a reading, a label and perhaps a message.
 fn call_line(t: &mut Table, word: &str, w: &mut Words) -> Shown {
-    let (reading, label) = (w.number()?, w.number()?);
+    let (reading, circuit) = (w.number()?, w.circuit()?);
     if !["close", "lock", "unlock"].contains(&word) {
         let message = message_of(word, w)?;
-        return Ok(Some(called(t, |t| t.receive(label, &message, reading))?.to_string()));
+        return Ok(Some(called(t, |t| t.receive(circuit, &message, reading))?.to_string()));
     }
     w.end()?;
     let answer = called(t, |t| match word {
-        "close" => t.close(label, reading),
-        "lock" => t.lock(label, reading),
-        _ => t.unlock(label, reading),
+        "close" => t.close(circuit, reading),
+        "lock" => t.lock(circuit, reading),
+        _ => t.unlock(circuit, reading),
     })?;
     Ok(Some(answer.to_string()))
 }
@@ -400,9 +410,9 @@ fn table_line(t: &mut Table, word: &str, w: &mut Words) -> Shown {
             let reading = w.number()?;
             (called(t, |t| t.tick(reading))?, String::new())
         }
-        "report" => reported(t, w.number()?)?,
+        "report" => reported(t, w.circuit()?)?,
         "why" => why(t, w)?,
-        "write-cc" | "write-cv" => written(t, word, w.number()?, w.number()?)?,
+        "write-cc" | "write-cv" => written(t, word, w.circuit()?, w.number()?)?,
         "close" | "lock" | "unlock" | "cc" | "cv" | "fault" | "octets" => return call_line(t, word, w),
         _ => return Err(format!("no such word: {word}")),
     };
@@ -431,18 +441,18 @@ fn accepted((answer, more): (u32, String)) -> Result<String, String> {
 
 fn report_at(t: &mut Table, reading: u64) -> Result<String, String> {
     tick_to(t, reading)?;
-    accepted(reported(t, LABEL)?)
+    accepted(reported(t, ours(LABEL))?)
 }
 
 /// A call that may change the session, and the report at its reading.
 fn session_call(t: &mut Table, word: &str, reading: u64, w: &mut Words) -> Shown {
     let answer = match word {
         "tick" => called(t, |t| t.tick(reading))?,
-        "lock" => called(t, |t| t.lock(LABEL, reading))?,
-        "unlock" => called(t, |t| t.unlock(LABEL, reading))?,
+        "lock" => called(t, |t| t.lock(ours(LABEL), reading))?,
+        "unlock" => called(t, |t| t.unlock(ours(LABEL), reading))?,
         _ => {
             let message = message_of(word, w)?;
-            called(t, |t| t.receive(LABEL, &message, reading))?
+            called(t, |t| t.receive(ours(LABEL), &message, reading))?
         }
     };
     w.end()?;
@@ -452,7 +462,7 @@ fn session_call(t: &mut Table, word: &str, reading: u64, w: &mut Words) -> Shown
 fn session_open(t: &mut Table, reading: u64, w: &mut Words) -> Shown {
     let g = settings(LABEL, 17, w.number()?);
     let g = settings_by(g, w)?;
-    Ok(Some(called(t, |t| t.open(g, reading))?.to_string()))
+    Ok(Some(called(t, |t| t.open(opened_by_us(g), reading))?.to_string()))
 }
 
 /// Whether a call finds the record sound, at a clock: 26 says that it does not.
@@ -511,7 +521,7 @@ fn session_line(t: &mut Table, word: &str, w: &mut Words) -> Shown {
         "report" => report_at(t, reading)?,
         "write-cc" | "write-cv" => {
             tick_to(t, reading)?;
-            accepted(written(t, word, LABEL, 78)?)?
+            accepted(written(t, word, ours(LABEL), 78)?)?
         }
         _ => return session_call(t, word, reading, w),
     };
@@ -642,8 +652,8 @@ fn kind_line(m: &[u8]) -> Shown {
         _ => return Err(format!("the readers answer {answers:?}")),
     };
     let mut t = empty_table()?;
-    let opened = t.open(settings(LABEL, 17, 1_000_000), 0);
-    let received = t.receive(LABEL, m, 0);
+    let opened = t.open(opened_by_us(settings(LABEL, 17, 1_000_000)), 0);
+    let received = t.receive(ours(LABEL), m, 0);
     if (opened, received) != (0, expected) {
         return Err(format!("{shown}, and received it is answered {received}"));
     }

@@ -22,7 +22,7 @@ static struct korvezul_head head;
 static int worst;
 static uint64_t now;
 static unsigned last_place; /* every scan comes to it last */
-static uint32_t last;       /* its label */
+static struct korvezul_circuit last; /* its label, called by its party */
 static uint8_t cc[KORVEZUL_CC_OCTETS], cv[KORVEZUL_CV_OCTETS], ais[9 + 254], buffer[KORVEZUL_CV_OCTETS];
 static uint8_t configuration[40];
 static size_t cv_octets; /* of the CV that is received */
@@ -36,8 +36,14 @@ static void accepted(uint32_t answer) {
 
 /* Ours from 16 or 100 on; theirs from the first multiple of 1,024 on that is theirs, and 16 or 100. */
 static uint32_t label_of(unsigned i) {
-    uint32_t first = i < 32 ? 0 : 489 * 1024, n = i % 32;
+    uint32_t first = i < KORVEZUL_PARTY_SESSIONS ? 0 : (KORVEZUL_FIRST_OF_THEIRS + 1023) / 1024 * 1024;
+    uint32_t n = i % KORVEZUL_PARTY_SESSIONS;
     return first + (worst ? 16 + 1024 * n : 100 + n);
+}
+
+static struct korvezul_circuit circuit_of(unsigned i) {
+    struct korvezul_circuit c = {label_of(i), korvezul_party_of(label_of(i))};
+    return c;
 }
 
 static struct korvezul_mep_id mep_of(uint32_t node, uint32_t local) {
@@ -46,14 +52,15 @@ static struct korvezul_mep_id mep_of(uint32_t node, uint32_t local) {
     return worst ? pseudowire : lsp;
 }
 
-static struct korvezul_settings settings_of(unsigned i) {
+static struct korvezul_opening opening_of(unsigned i) {
     struct korvezul_settings s = {mep_of(10, i), mep_of(20, i), label_of(i), label_of(i),
                                   10000000,      1,             1,           KORVEZUL_COORDINATED};
-    return s;
+    struct korvezul_opening o = {s, circuit_of(i).party};
+    return o;
 }
 
-static void receive(uint32_t label, const uint8_t *m, size_t n) {
-    accepted(korvezul_receive(row, KORVEZUL_RECORDS, &head, label, m, n, now));
+static void receive(unsigned i, const uint8_t *m, size_t n) {
+    accepted(korvezul_receive(row, KORVEZUL_RECORDS, &head, circuit_of(i), m, n, now));
 }
 
 static void write_cc(uint32_t your, uint8_t state) {
@@ -65,29 +72,29 @@ static void write_cc(uint32_t your, uint8_t state) {
 static void prepare(unsigned open) {
     accepted(korvezul_empty(row, KORVEZUL_RECORDS, &head));
     for (unsigned i = 0; i < open; i++) {
-        accepted(korvezul_open(row, KORVEZUL_RECORDS, &head, settings_of(i), now));
+        accepted(korvezul_open(row, KORVEZUL_RECORDS, &head, opening_of(i), now));
         write_cc(label_of(i), 1);
-        receive(label_of(i), cc, sizeof cc);
+        receive(i, cc, sizeof cc);
         write_cc(label_of(i), 3);
-        receive(label_of(i), cc, sizeof cc);
+        receive(i, cc, sizeof cc);
         for (uint32_t k = 0; worst && k < 4; k++) {
             struct korvezul_fault f = {1, k, 0, 1, 0, 0, 20, 1, 0};
             uint8_t m[19];
             accepted(korvezul_write_fault_message(m, sizeof m, f));
-            receive(label_of(i), m, sizeof m);
+            receive(i, m, sizeof m);
         }
         if (worst) {
             write_cc(1, 3);
-            receive(label_of(i), cc, sizeof cc);
+            receive(i, cc, sizeof cc);
         }
         last_place = i;
     }
-    last = label_of(last_place);
+    last = circuit_of(last_place);
 }
 
 /* What is received: a CC, a CV, and the fault message with the most TLVs, all passed over. */
 static void messages(void) {
-    struct korvezul_packet p = {9, last, 1000000, 1000000, 0, 0, 3, 3, 1, 0, 0, 0};
+    struct korvezul_packet p = {9, last.label, 1000000, 1000000, 0, 0, 3, 3, 1, 0, 0, 0};
     struct korvezul_mep_id expected = mep_of(20, last_place);
     struct korvezul_fault f = {0, 0, 0, 1, 1, 1, 20, 0, 0};
     accepted(korvezul_write_cc_message(cc, sizeof cc, p));
@@ -108,7 +115,7 @@ static const struct korvezul_fault fault = {1, 2, 3, 1, 0, 0, 20, 1, 1};
 static uint32_t none(void) { return 0; } /* what the counting itself costs */
 static uint32_t empty(void) { return korvezul_empty(TABLE); }
 static uint32_t tick(void) { return korvezul_tick(TABLE, now); }
-static uint32_t open_one(void) { return korvezul_open(TABLE, settings_of(63), now); }
+static uint32_t open_one(void) { return korvezul_open(TABLE, opening_of(63), now); }
 static uint32_t close_one(void) { return korvezul_close(TABLE, last, now); }
 static uint32_t lock(void) { return korvezul_lock(TABLE, last, now); }
 static uint32_t unlock(void) { return korvezul_unlock(TABLE, last, now); }
@@ -149,7 +156,7 @@ static uint32_t log_tick(void) {
     return korvezul_log_call(buffer, sizeof buffer, w, cc, 0);
 }
 static uint32_t log_cc(void) {
-    struct korvezul_logged w = {now, last, KORVEZUL_CALL_RECEIVE, 0};
+    struct korvezul_logged w = {now, last.label, KORVEZUL_CALL_RECEIVE, 0};
     return korvezul_log_call(buffer, sizeof buffer, w, cc, sizeof cc);
 }
 

@@ -76,6 +76,7 @@ struct call {
     enum kind kind;
     uint64_t reading;
     uint32_t label;
+    uint32_t party; /* who calls */
     struct korvezul_settings settings;
     uint8_t *octets; /* the message, or the buffer */
     size_t size;
@@ -88,21 +89,23 @@ struct said {
 
 static struct said make(struct korvezul_session *row, size_t n, struct korvezul_head *head,
                         const struct call *c) {
+    const struct korvezul_circuit circuit = {c->label, c->party};
+    const struct korvezul_opening opening = {c->settings, c->party};
     struct said s;
     memset(&s, 0, sizeof s);
     switch (c->kind) {
     case TICK: s.answer = korvezul_tick(row, n, head, c->reading); break;
-    case OPEN: s.answer = korvezul_open(row, n, head, c->settings, c->reading); break;
-    case CLOSE: s.answer = korvezul_close(row, n, head, c->label, c->reading); break;
-    case LOCK: s.answer = korvezul_lock(row, n, head, c->label, c->reading); break;
-    case UNLOCK: s.answer = korvezul_unlock(row, n, head, c->label, c->reading); break;
-    case RECEIVE: s.answer = korvezul_receive(row, n, head, c->label, c->octets, c->size, c->reading); break;
+    case OPEN: s.answer = korvezul_open(row, n, head, opening, c->reading); break;
+    case CLOSE: s.answer = korvezul_close(row, n, head, circuit, c->reading); break;
+    case LOCK: s.answer = korvezul_lock(row, n, head, circuit, c->reading); break;
+    case UNLOCK: s.answer = korvezul_unlock(row, n, head, circuit, c->reading); break;
+    case RECEIVE: s.answer = korvezul_receive(row, n, head, circuit, c->octets, c->size, c->reading); break;
     case REPORT:
-        s.report = korvezul_report(row, n, head, c->label);
+        s.report = korvezul_report(row, n, head, circuit);
         s.answer = s.report.answer;
         break;
-    case WRITE_CC: s.answer = korvezul_write_cc(row, n, head, c->label, c->octets, c->size); break;
-    case WRITE_CV: s.answer = korvezul_write_cv(row, n, head, c->label, c->octets, c->size); break;
+    case WRITE_CC: s.answer = korvezul_write_cc(row, n, head, circuit, c->octets, c->size); break;
+    case WRITE_CV: s.answer = korvezul_write_cv(row, n, head, circuit, c->octets, c->size); break;
     default: s.answer = korvezul_empty(row, n, head); break;
     }
     return s;
@@ -183,6 +186,7 @@ static struct call call_of(const uint8_t *begin, const uint8_t *body, size_t siz
     c.kind = (enum kind)number(begin + 12, 2);
     c.reading = number(begin, 8);
     c.label = (uint32_t)number(begin + 8, 4);
+    c.party = korvezul_party_of(c.label);
     c.settings = settings_of(c.label, body, size);
     c.size = c.kind == RECEIVE ? size : WATCH_CV;
     c.octets = lend(lent, c.size, 1);
@@ -278,12 +282,19 @@ static struct korvezul_mep_id some_mep(uint16_t kind) {
 
 /* One of 80 of a party, three of them often, so that some sessions are told much in a short time. */
 static uint32_t some_label(void) {
-    uint32_t first = once_in(2) ? 16 : 500000;
+    uint32_t first = once_in(2) ? 16 : KORVEZUL_FIRST_OF_THEIRS;
     return once_in(50) ? (uint32_t)any() : first + (uint32_t)below(once_in(2) ? 3 : 80);
 }
 
 /* The discriminator that a label mostly has; both parties give out the same. */
-static uint32_t usual_discriminator(uint32_t label) { return label < 500000 ? label : label - 500000 + 16; }
+static uint32_t usual_discriminator(uint32_t label) {
+    return korvezul_party_of(label) == KORVEZUL_OURS ? label : label - KORVEZUL_FIRST_OF_THEIRS + 16;
+}
+
+/* Who calls on a label: mostly its own party. */
+static uint32_t some_party(uint32_t label) {
+    return !once_in(25) ? korvezul_party_of(label) : once_in(4) ? (uint32_t)any() : (uint32_t)below(3);
+}
 
 static uint16_t some_kind(void) { return (uint16_t)(once_in(30) ? below(5) : below(3)); }
 
@@ -405,6 +416,7 @@ static struct call some_call(const struct korvezul_head *head, const struct lend
     if (c.kind == CLOSE && filling)
         c.kind = REPORT;
     c.label = some_label();
+    c.party = some_party(c.label);
     c.reading = some_reading(head->clock);
     c.settings = some_settings(c.label, as_watch);
     if (c.kind == RECEIVE) {
@@ -429,7 +441,7 @@ static size_t open_body(uint8_t *o, const struct korvezul_settings *s) {
     return (size_t)(end - o);
 }
 
-/* A call as a line of a list: a capture has no place for a mode. */
+/* A call as a line of a list: a capture has no place for a mode, nor for the party. */
 static void listed(FILE *to, const struct call *c) {
     static const char *const kinds[] = {"tick",    "open",   "close",    "lock",    "unlock",
                                         "receive", "report", "write-cc", "write-cv"};
@@ -439,6 +451,8 @@ static void listed(FILE *to, const struct call *c) {
     fprintf(to, "%" PRIu64 " %" PRIu32 " %s", c->reading, c->label, kinds[c->kind]);
     if (c->kind == OPEN)
         fprintf(to, " mode=%d", c->settings.mode);
+    if (c->kind != TICK)
+        fprintf(to, " party=%" PRIu32, c->party);
     fprintf(to, " hex ");
     for (size_t i = 0; i < size; i++)
         fprintf(to, "%02x", body[i]);
@@ -536,6 +550,9 @@ static void look(const struct table *before, const struct table *after, size_t n
     static const uint8_t noughts[7];
     must(may_answer(c->kind, s->answer), "an answer that this call does not give");
     must(n == KORVEZUL_RECORDS || s->answer == 26, "a row of another length is taken");
+    if (c->kind != TICK && c->kind != EMPTY && c->party != korvezul_party_of(c->label))
+        must(s->answer == 26 || s->answer == 1 || s->answer == (c->kind == OPEN ? 10 : 2),
+             "a label of another party is seen");
     for (size_t i = 0; i < n; i++)
         changed += memcmp(&before->row[i], &after->row[i], sizeof before->row[i]) != 0;
     if (s->answer != 0 || c->kind == REPORT)

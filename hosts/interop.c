@@ -93,7 +93,7 @@ static void must(const char *call, uint32_t answer) {
 
 /* The loss began one microsecond behind period times multiplier, worked out by the library. */
 static void tell_loss(struct card *c) {
-    struct korvezul_question q = {.label = LABEL, .thing = KORVEZUL_A_LOSS};
+    struct korvezul_question q = {.circuit = korvezul_ours(LABEL), .thing = KORVEZUL_A_LOSS};
     struct korvezul_cause w = korvezul_why(c->row, KORVEZUL_RECORDS, &c->head, q);
     must("why", w.answer);
     tell("loss since %" PRIu64 " us behind the last message heard, now %" PRIu64 " us", w.end - w.reading,
@@ -102,7 +102,7 @@ static void tell_loss(struct card *c) {
 
 /* Tells the report where it is another than the one told before. */
 static void look(struct card *c) {
-    struct korvezul_report_answer r = korvezul_report(c->row, KORVEZUL_RECORDS, &c->head, LABEL),
+    struct korvezul_report_answer r = korvezul_report(c->row, KORVEZUL_RECORDS, &c->head, korvezul_ours(LABEL)),
                                   was = c->says;
     must("report", r.answer);
     if (r.state == was.state && r.loss == was.loss && r.alarm == was.alarm && r.rdi == was.rdi &&
@@ -120,7 +120,7 @@ static void send_cc(struct card *c) {
     uint8_t m[KORVEZUL_CC_OCTETS];
     ssize_t n;
     must("tick", korvezul_tick(c->row, KORVEZUL_RECORDS, &c->head, microseconds()));
-    must("write CC", korvezul_write_cc(c->row, KORVEZUL_RECORDS, &c->head, LABEL, m, sizeof m));
+    must("write CC", korvezul_write_cc(c->row, KORVEZUL_RECORDS, &c->head, korvezul_ours(LABEL), m, sizeof m));
     n = sendto(c->out, m + sizeof cc_header, sizeof m - sizeof cc_header, 0, (struct sockaddr *)&c->peer,
                sizeof c->peer);
     if (n == (ssize_t)(sizeof m - sizeof cc_header)) {
@@ -153,7 +153,7 @@ static void count(struct card *c, uint32_t answer) {
 static void hear(struct card *c, const uint8_t *message, size_t octets) {
     struct korvezul_cc_read r = korvezul_read_cc(message, octets);
     uint32_t answer =
-        korvezul_receive(c->row, KORVEZUL_RECORDS, &c->head, LABEL, message, octets, microseconds());
+        korvezul_receive(c->row, KORVEZUL_RECORDS, &c->head, korvezul_ours(LABEL), message, octets, microseconds());
     count(c, answer);
     if (r.answer != KORVEZUL_ACCEPTED) {
         tell("refuses a packet: %s, at octet %" PRIu64, korvezul_answer_name(r.answer), r.place);
@@ -239,11 +239,11 @@ static void cut(struct card *c) { set_wire(c->device, 0); }
 static void mend(struct card *c) { set_wire(c->device, 1); }
 
 static void lock(struct card *c) {
-    must("lock", korvezul_lock(c->row, KORVEZUL_RECORDS, &c->head, LABEL, microseconds()));
+    must("lock", korvezul_lock(c->row, KORVEZUL_RECORDS, &c->head, korvezul_ours(LABEL), microseconds()));
 }
 
 static void unlock(struct card *c) {
-    must("unlock", korvezul_unlock(c->row, KORVEZUL_RECORDS, &c->head, LABEL, microseconds()));
+    must("unlock", korvezul_unlock(c->row, KORVEZUL_RECORDS, &c->head, korvezul_ours(LABEL), microseconds()));
 }
 
 /* What is done, what is to come of it, within how many intervals, and how many periods it has to last. */
@@ -319,7 +319,7 @@ static void open_session(struct card *c) {
                                   .discriminator = DISCRIMINATOR,
                                   .period = c->period};
     must("empty", korvezul_empty(c->row, KORVEZUL_RECORDS, &c->head));
-    must("open", korvezul_open(c->row, KORVEZUL_RECORDS, &c->head, s, microseconds()));
+    must("open", korvezul_open(c->row, KORVEZUL_RECORDS, &c->head, korvezul_opened_by_us(s), microseconds()));
     c->says.answer = KORVEZUL_NO_SESSION;
     c->hears = NEVER_HEARD;
 }

@@ -4,8 +4,13 @@
 use std::mem::{align_of, offset_of, size_of};
 
 pub const RECORDS: usize = 64;
-/// The version of the header that these declarations follow, 5.2.0.
-pub const VERSION: u32 = 0x050200;
+/// The version of the header that these declarations follow, 6.0.0.
+pub const VERSION: u32 = 0x060000;
+/// The two operators of a row, how many sessions each may have open, and the first label that is theirs.
+pub const OURS: u32 = 0;
+pub const THEIRS: u32 = 1;
+pub const PARTY_SESSIONS: u32 = 32;
+pub const FIRST_OF_THEIRS: u32 = 500_000;
 /// The modes of a session.
 pub const COORDINATED: u8 = 0;
 pub const SOURCE: u8 = 1;
@@ -51,6 +56,49 @@ pub struct Settings {
     pub follow_link: u8,
     pub follow_lock: u8,
     pub mode: u8,
+}
+
+/// The label that a call is on, and the party that calls.
+#[repr(C)]
+#[derive(Clone, Copy, Debug, Default, PartialEq)]
+pub struct Circuit {
+    pub label: u32,
+    pub party: u32,
+}
+
+/// What a session is opened with, and the party that opens it.
+#[repr(C)]
+#[derive(Clone, Copy, Debug, Default, PartialEq)]
+pub struct Opening {
+    pub settings: Settings,
+    pub party: u32,
+}
+
+/// What we call with: our label, our session to open.
+pub fn ours(label: u32) -> Circuit {
+    Circuit { label, party: OURS }
+}
+
+pub fn opened_by_us(settings: Settings) -> Opening {
+    Opening { settings, party: OURS }
+}
+
+/// What the second operator calls with.
+pub fn theirs(label: u32) -> Circuit {
+    Circuit { label, party: THEIRS }
+}
+
+pub fn opened_by_them(settings: Settings) -> Opening {
+    Opening { settings, party: THEIRS }
+}
+
+/// Whose label it is, for a host that serves both.
+pub fn party_of(label: u32) -> u32 {
+    if label < FIRST_OF_THEIRS {
+        OURS
+    } else {
+        THEIRS
+    }
 }
 
 #[repr(C)]
@@ -118,7 +166,7 @@ pub struct ReportAnswer {
 #[repr(C)]
 #[derive(Clone, Copy, Debug, Default, PartialEq)]
 pub struct Question {
-    pub label: u32,
+    pub circuit: Circuit,
     pub key: Key,
     pub thing: u8,
 }
@@ -229,34 +277,36 @@ const _: () = {
     assert!(size_of::<ConfigurationRead>() == 12 && offset_of!(ConfigurationRead, period) == 8);
     assert!(size_of::<Logged>() == 16 && align_of::<Logged>() == 8 && offset_of!(Logged, label) == 8);
     assert!(offset_of!(Logged, kind) == 12 && offset_of!(Logged, answer) == 14);
-    assert!(size_of::<Question>() == 24 && offset_of!(Question, key) == 4 && offset_of!(Question, thing) == 20);
+    assert!(size_of::<Circuit>() == 8 && align_of::<Circuit>() == 4 && offset_of!(Circuit, party) == 4);
+    assert!(size_of::<Opening>() == 120 && align_of::<Opening>() == 8 && offset_of!(Opening, party) == 112);
+    assert!(size_of::<Question>() == 28 && offset_of!(Question, key) == 8 && offset_of!(Question, thing) == 24);
     assert!(size_of::<Cause>() == 48 && offset_of!(Cause, reading) == 16 && offset_of!(Cause, answer) == 40);
 };
 
 extern "C" {
     pub fn korvezul_version() -> u32;
     pub fn korvezul_empty(row: *const Session, records: usize, head: *mut Head) -> u32;
-    pub fn korvezul_open(row: *mut Session, records: usize, head: *mut Head, settings: Settings, reading: u64) -> u32;
-    pub fn korvezul_close(row: *mut Session, records: usize, head: *mut Head, label: u32, reading: u64) -> u32;
-    pub fn korvezul_lock(row: *mut Session, records: usize, head: *mut Head, label: u32, reading: u64) -> u32;
-    pub fn korvezul_unlock(row: *mut Session, records: usize, head: *mut Head, label: u32, reading: u64) -> u32;
+    pub fn korvezul_open(row: *mut Session, records: usize, head: *mut Head, opening: Opening, reading: u64) -> u32;
+    pub fn korvezul_close(row: *mut Session, records: usize, head: *mut Head, circuit: Circuit, reading: u64) -> u32;
+    pub fn korvezul_lock(row: *mut Session, records: usize, head: *mut Head, circuit: Circuit, reading: u64) -> u32;
+    pub fn korvezul_unlock(row: *mut Session, records: usize, head: *mut Head, circuit: Circuit, reading: u64) -> u32;
     pub fn korvezul_receive(
         row: *mut Session,
         records: usize,
         head: *mut Head,
-        label: u32,
+        circuit: Circuit,
         message: *const u8,
         octets: usize,
         reading: u64,
     ) -> u32;
     pub fn korvezul_tick(row: *mut Session, records: usize, head: *mut Head, reading: u64) -> u32;
-    pub fn korvezul_report(row: *mut Session, records: usize, head: *mut Head, label: u32) -> ReportAnswer;
+    pub fn korvezul_report(row: *mut Session, records: usize, head: *mut Head, circuit: Circuit) -> ReportAnswer;
     pub fn korvezul_why(row: *mut Session, records: usize, head: *mut Head, question: Question) -> Cause;
     pub fn korvezul_write_cc(
         row: *mut Session,
         records: usize,
         head: *mut Head,
-        label: u32,
+        circuit: Circuit,
         buffer: *mut u8,
         size: usize,
     ) -> u32;
@@ -264,7 +314,7 @@ extern "C" {
         row: *mut Session,
         records: usize,
         head: *mut Head,
-        label: u32,
+        circuit: Circuit,
         buffer: *mut u8,
         size: usize,
     ) -> u32;
@@ -297,25 +347,25 @@ impl Table {
     pub fn empty(&mut self) -> u32 {
         unsafe { korvezul_empty(self.row.as_ptr(), RECORDS, &mut self.head) }
     }
-    pub fn open(&mut self, settings: Settings, reading: u64) -> u32 {
-        unsafe { korvezul_open(self.row.as_mut_ptr(), RECORDS, &mut self.head, settings, reading) }
+    pub fn open(&mut self, opening: Opening, reading: u64) -> u32 {
+        unsafe { korvezul_open(self.row.as_mut_ptr(), RECORDS, &mut self.head, opening, reading) }
     }
-    pub fn close(&mut self, label: u32, reading: u64) -> u32 {
-        unsafe { korvezul_close(self.row.as_mut_ptr(), RECORDS, &mut self.head, label, reading) }
+    pub fn close(&mut self, circuit: Circuit, reading: u64) -> u32 {
+        unsafe { korvezul_close(self.row.as_mut_ptr(), RECORDS, &mut self.head, circuit, reading) }
     }
-    pub fn lock(&mut self, label: u32, reading: u64) -> u32 {
-        unsafe { korvezul_lock(self.row.as_mut_ptr(), RECORDS, &mut self.head, label, reading) }
+    pub fn lock(&mut self, circuit: Circuit, reading: u64) -> u32 {
+        unsafe { korvezul_lock(self.row.as_mut_ptr(), RECORDS, &mut self.head, circuit, reading) }
     }
-    pub fn unlock(&mut self, label: u32, reading: u64) -> u32 {
-        unsafe { korvezul_unlock(self.row.as_mut_ptr(), RECORDS, &mut self.head, label, reading) }
+    pub fn unlock(&mut self, circuit: Circuit, reading: u64) -> u32 {
+        unsafe { korvezul_unlock(self.row.as_mut_ptr(), RECORDS, &mut self.head, circuit, reading) }
     }
-    pub fn receive(&mut self, label: u32, message: &[u8], reading: u64) -> u32 {
+    pub fn receive(&mut self, circuit: Circuit, message: &[u8], reading: u64) -> u32 {
         unsafe {
             korvezul_receive(
                 self.row.as_mut_ptr(),
                 RECORDS,
                 &mut self.head,
-                label,
+                circuit,
                 message.as_ptr(),
                 message.len(),
                 reading,
@@ -325,20 +375,34 @@ impl Table {
     pub fn tick(&mut self, reading: u64) -> u32 {
         unsafe { korvezul_tick(self.row.as_mut_ptr(), RECORDS, &mut self.head, reading) }
     }
-    pub fn report(&mut self, label: u32) -> ReportAnswer {
-        unsafe { korvezul_report(self.row.as_mut_ptr(), RECORDS, &mut self.head, label) }
+    pub fn report(&mut self, circuit: Circuit) -> ReportAnswer {
+        unsafe { korvezul_report(self.row.as_mut_ptr(), RECORDS, &mut self.head, circuit) }
     }
     pub fn why(&mut self, question: Question) -> Cause {
         unsafe { korvezul_why(self.row.as_mut_ptr(), RECORDS, &mut self.head, question) }
     }
-    pub fn write_cc(&mut self, label: u32, buffer: &mut [u8]) -> u32 {
+    pub fn write_cc(&mut self, circuit: Circuit, buffer: &mut [u8]) -> u32 {
         unsafe {
-            korvezul_write_cc(self.row.as_mut_ptr(), RECORDS, &mut self.head, label, buffer.as_mut_ptr(), buffer.len())
+            korvezul_write_cc(
+                self.row.as_mut_ptr(),
+                RECORDS,
+                &mut self.head,
+                circuit,
+                buffer.as_mut_ptr(),
+                buffer.len(),
+            )
         }
     }
-    pub fn write_cv(&mut self, label: u32, buffer: &mut [u8]) -> u32 {
+    pub fn write_cv(&mut self, circuit: Circuit, buffer: &mut [u8]) -> u32 {
         unsafe {
-            korvezul_write_cv(self.row.as_mut_ptr(), RECORDS, &mut self.head, label, buffer.as_mut_ptr(), buffer.len())
+            korvezul_write_cv(
+                self.row.as_mut_ptr(),
+                RECORDS,
+                &mut self.head,
+                circuit,
+                buffer.as_mut_ptr(),
+                buffer.len(),
+            )
         }
     }
 }
@@ -411,7 +475,7 @@ pub fn answer_name(answer: u32) -> &'static str {
         9 => "four conditions stand",
         10 => "out of range",
         11 => "label or discriminator taken",
-        12 => "table full",
+        12 => "all sessions of the party open",
         13 => "buffer too short",
         14 => "session locked",
         15 => "does not stand",
@@ -419,6 +483,14 @@ pub fn answer_name(answer: u32) -> &'static str {
         17 => "entry of a wrong length",
         18 => "needed entry missing or twice",
         26 => "not a table",
+        _ => "unknown",
+    }
+}
+
+pub fn party_name(party: u32) -> &'static str {
+    match party {
+        OURS => "ours",
+        THEIRS => "theirs",
         _ => "unknown",
     }
 }

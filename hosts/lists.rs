@@ -10,10 +10,10 @@ use korvezul::*;
 use std::path::{Path, PathBuf};
 use std::process::ExitCode;
 
-/// A call: what stands in front of its octets, and these.
+/// A call: what stands in front of its octets, and these. A tick names no party, nor a label.
 struct Call<'a> {
     time: u64,
-    label: u32,
+    circuit: Circuit,
     kind: &'a str,
     mode: u8,
     body: Vec<u8>,
@@ -34,11 +34,12 @@ fn call_of(words: &str) -> Result<Call<'_>, String> {
     let mut front = front.split_whitespace();
     let mut word = || front.next().ok_or("a word is missing");
     let (time, label, kind) = (number(word()?)?, number(word()?)?, word()?);
-    let mut call = Call { time, label, kind, mode: COORDINATED, body: octets(hex.trim())? };
+    let circuit = Circuit { label, party: party_of(label) };
+    let mut call = Call { time, circuit, kind, mode: COORDINATED, body: octets(hex.trim())? };
     for word in front {
         match word.split_once('=') {
             Some(("mode", value)) => call.mode = number(value)?,
-            Some(("party", value)) if number(value) == Ok(u32::from(label >= 500_000)) => {}
+            Some(("party", value)) => call.circuit.party = number(value)?,
             _ => return Err(format!("no such word: {word}")),
         }
     }
@@ -57,7 +58,7 @@ fn mep_of(kind: u16, value: &[u8]) -> MepId {
 /// The settings in the body of an open. A body that does not fit has discriminator 0 and is answered 10 at the
 /// latest; twelve octets are no value of a pseudowire.
 fn settings_of(call: &Call) -> Settings {
-    let (b, none) = (&call.body, Settings { label: call.label, ..Settings::default() });
+    let (b, none) = (&call.body, Settings { label: call.circuit.label, ..Settings::default() });
     if b.len() != 35 || b[34] > 3 || b[8..10] == [0, 2] {
         return none;
     }
@@ -77,7 +78,7 @@ fn settings_of(call: &Call) -> Settings {
 /// Receive answers without a place: the reader of the message's channel has it, and where the header is refused all
 /// three say the same.
 fn received(t: &mut Table, call: &Call) -> String {
-    let answer = t.receive(call.label, &call.body, call.time);
+    let answer = t.receive(call.circuit, &call.body, call.time);
     let place = match call.body.get(3) {
         _ if !(3..=8).contains(&answer) => return answer.to_string(),
         Some(0x23) => read_cv(&call.body).place,
@@ -87,8 +88,8 @@ fn received(t: &mut Table, call: &Call) -> String {
     format!("{answer} {place}")
 }
 
-fn reported(t: &mut Table, label: u32) -> String {
-    let r = t.report(label);
+fn reported(t: &mut Table, circuit: Circuit) -> String {
+    let r = t.report(circuit);
     match r.answer {
         0 => format!("0 {} {} {} {} {} {} {}", r.state, r.crossing, r.loss, r.alarm, r.rdi, r.blocked, r.conditions),
         answer => answer.to_string(),
@@ -110,17 +111,17 @@ fn written(write: impl FnOnce(&mut [u8]) -> u32, size: impl FnOnce(&[u8]) -> u64
 /// What a call is answered. A refused one and a report leave row and head as they were.
 fn answered(t: &mut Table, call: &Call) -> Result<String, String> {
     let before = t.clone();
-    let (label, time) = (call.label, call.time);
+    let (circuit, time) = (call.circuit, call.time);
     let answer = match call.kind {
         "tick" => t.tick(time).to_string(),
-        "open" => t.open(settings_of(call), time).to_string(),
-        "close" => t.close(label, time).to_string(),
-        "lock" => t.lock(label, time).to_string(),
-        "unlock" => t.unlock(label, time).to_string(),
+        "open" => t.open(Opening { settings: settings_of(call), party: circuit.party }, time).to_string(),
+        "close" => t.close(circuit, time).to_string(),
+        "lock" => t.lock(circuit, time).to_string(),
+        "unlock" => t.unlock(circuit, time).to_string(),
         "receive" => received(t, call),
-        "report" => reported(t, label),
-        "write-cc" => written(|b| t.write_cc(label, b), |b| read_cc(b).place)?,
-        "write-cv" => written(|b| t.write_cv(label, b), |b| read_cv(b).place)?,
+        "report" => reported(t, circuit),
+        "write-cc" => written(|b| t.write_cc(circuit, b), |b| read_cc(b).place)?,
+        "write-cv" => written(|b| t.write_cv(circuit, b), |b| read_cv(b).place)?,
         kind => return Err(format!("no such call: {kind}")),
     };
     let refused = !answer.starts_with("0");
@@ -137,6 +138,8 @@ fn spoil(t: &mut Table, words: &str) -> Result<(), String> {
     };
     let record = t.row.get_mut(number::<usize>(place)?).ok_or("no such place")?;
     match field {
+        "label" => record.settings.label = number(value)?,
+        "my" => record.settings.discriminator = number(value)?,
         "remote" => record.peer.remote = number(value)?,
         "mode" => record.settings.mode = number(value)?,
         "state" => record.state = number(value)?,

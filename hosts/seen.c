@@ -38,11 +38,11 @@ static void begin(struct card *c, const char *name, int behind_messages, uint64_
     c->blocked = 0;
     c->times = 0;
     korvezul_empty(c->row, KORVEZUL_RECORDS, &c->head);
-    korvezul_open(c->row, KORVEZUL_RECORDS, &c->head, s, 0);
+    korvezul_open(c->row, KORVEZUL_RECORDS, &c->head, korvezul_opened_by_us(s), 0);
 }
 
 static struct korvezul_report_answer report(struct card *c) {
-    return korvezul_report(c->row, KORVEZUL_RECORDS, &c->head, LABEL);
+    return korvezul_report(c->row, KORVEZUL_RECORDS, &c->head, korvezul_ours(LABEL));
 }
 
 /* What the sketch in docs/CARD.md does with a report: traffic is blocked, or free again. */
@@ -66,7 +66,7 @@ static void receive(struct card *c, uint8_t state, uint32_t your, uint64_t now) 
     struct korvezul_packet p = {34, your, PERIOD, PERIOD, 0, 0, state, 3, 0, 0, 0, 0};
     uint8_t m[KORVEZUL_CC_OCTETS];
     korvezul_write_cc_message(m, sizeof m, p);
-    korvezul_receive(c->row, KORVEZUL_RECORDS, &c->head, LABEL, m, sizeof m, now);
+    korvezul_receive(c->row, KORVEZUL_RECORDS, &c->head, korvezul_ours(LABEL), m, sizeof m, now);
     if (c->behind_messages)
         look(c);
 }

@@ -10,6 +10,13 @@
  * call. What one call is lent must not overlap: row, head, message and buffer are apart. A pointer
  * is never null and is aligned for its type, also beside a length of 0.
  *
+ * Parties. Two operators may have their sessions in one row, 32 each: labels below 500,000 are ours,
+ * party 0, all others theirs, party 1. Every call but a tick, and making a row empty, names the party that
+ * calls. A label of the other party is not open to it (2, and 10 on open), and from an empty row on what it
+ * is answered, reported and written hangs on nothing that the other does, but on the clock. A host of one
+ * operator writes korvezul_ours(label) where a call has a circuit, and korvezul_opened_by_us(settings) to
+ * open.
+ *
  * Time. A reading is the host's clock in microseconds. It may not run backwards (answer 1) and is
  * at most 9,223,372,036,854,775,807. Report, why and write speak at the reading of the last accepted
  * call that brought one: tick first to have them speak of now.
@@ -29,18 +36,21 @@
 extern "C" {
 #endif
 
-/* The version of this header: 0x050200 is 5.2.0. korvezul_version() is the archive's; another major
+/* The version of this header: 0x060000 is 6.0.0. korvezul_version() is the archive's; another major
  * number is another layout or another meaning, and the two must agree in it. 5: the settings have a mode,
  * in an octet that was nobody's before; 5.1: configurations are read and written; 5.2: records of a log
- * are written. */
-#define KORVEZUL_VERSION_MAJOR 5
-#define KORVEZUL_VERSION_MINOR 2
+ * are written; 6: every call but a tick names its party, and a party has 32 sessions. */
+#define KORVEZUL_VERSION_MAJOR 6
+#define KORVEZUL_VERSION_MINOR 0
 #define KORVEZUL_VERSION_PATCH 0
 #define KORVEZUL_VERSION \
     (KORVEZUL_VERSION_MAJOR * 0x10000 + KORVEZUL_VERSION_MINOR * 0x100 + KORVEZUL_VERSION_PATCH)
 
-/* The records of a row, and the octets of a CC that a session writes. */
+/* The records of a row, how many of them one party may have open, and the first label that is theirs. */
 #define KORVEZUL_RECORDS 64
+#define KORVEZUL_PARTY_SESSIONS 32
+#define KORVEZUL_FIRST_OF_THEIRS 500000
+/* The octets of a CC that a session writes. */
 #define KORVEZUL_CC_OCTETS 28
 /* The longest plain CV, and the longest plain fault message. */
 #define KORVEZUL_CV_OCTETS 78
@@ -55,7 +65,7 @@ extern "C" {
 enum korvezul_answer {
     KORVEZUL_ACCEPTED = 0,
     KORVEZUL_READING = 1,     /* the reading is below the clock, or above the greatest */
-    KORVEZUL_NO_SESSION = 2,  /* no open session has this label */
+    KORVEZUL_NO_SESSION = 2,  /* no open session has this label, or it is not the caller's */
     KORVEZUL_SHORT = 3,       /* the message is shorter than its layout needs */
     KORVEZUL_HEADER = 4,      /* its first nibble is not 1, or its G-ACh version not 0 */
     KORVEZUL_CHANNEL = 5,     /* its channel is not CC, CV or fault (a reader of one kind: not that one) */
@@ -63,16 +73,18 @@ enum korvezul_answer {
     KORVEZUL_MEP_ID = 7,      /* the MEP-ID's type is above 2, or its length or AGI length does not fit */
     KORVEZUL_FAULT = 8,       /* a field or a TLV of a fault message is wrong */
     KORVEZUL_CONDITIONS = 9,  /* a new condition, and four already stand */
-    KORVEZUL_RANGE = 10,      /* a setting or a field to write is out of range, or would not be read */
-    KORVEZUL_TAKEN = 11,      /* the label or the local discriminator is already open */
-    KORVEZUL_FULL = 12,       /* all 64 places are open */
+    KORVEZUL_RANGE = 10,      /* a setting or a field to write is out of range, or would not be read; the label
+                                 to be opened is not the caller's */
+    KORVEZUL_TAKEN = 11,      /* the label is already open, or the local discriminator in the caller's party */
+    KORVEZUL_FULL = 12,       /* 32 sessions of the caller are open */
     KORVEZUL_BUFFER = 13,     /* the lent buffer is too short */
     KORVEZUL_LOCKED = 14,     /* a BFD message for a locked session */
     KORVEZUL_NOT_SO = 15,     /* what is asked about does not stand */
     KORVEZUL_PAST = 16,       /* an entry of a configuration, padding included, past its holder's end */
     KORVEZUL_LENGTH = 17,     /* a known entry whose length its layout does not allow */
     KORVEZUL_NEEDED = 18,     /* a needed entry missing or twice */
-    KORVEZUL_TABLE = 26       /* not 64 records, or an open record that no call can have left */
+    KORVEZUL_TABLE = 26       /* not 64 records, or open records that no call can have left: one out of range, two
+                                 of one label, two of one party and discriminator, over 32 of a party */
 };
 
 enum korvezul_state {
@@ -86,6 +98,12 @@ enum korvezul_kind {
     KORVEZUL_SECTION = 0,
     KORVEZUL_LSP = 1,
     KORVEZUL_PSEUDOWIRE = 2
+};
+
+/* The two operators of a row. A number above 1 is nobody: it owns no label. */
+enum korvezul_party {
+    KORVEZUL_OURS = 0,        /* labels below 500,000 */
+    KORVEZUL_THEIRS = 1       /* all others */
 };
 
 /* How a session moves: by Figure 7, 8 or 9 of RFC 6428. A coordinated session watches both directions at
@@ -132,6 +150,45 @@ struct korvezul_settings {
     uint8_t follow_lock;
     uint8_t mode;
 };
+
+/* The label that a call is on, and the party that calls. */
+struct korvezul_circuit {
+    uint32_t label;
+    uint32_t party;
+};
+
+/* What a session is opened with, and the party that opens it. */
+struct korvezul_opening {
+    struct korvezul_settings settings;
+    uint32_t party;
+};
+
+/* What we call with: our label, our session to open. */
+static inline struct korvezul_circuit korvezul_ours(uint32_t label) {
+    struct korvezul_circuit circuit = {label, KORVEZUL_OURS};
+    return circuit;
+}
+
+static inline struct korvezul_opening korvezul_opened_by_us(struct korvezul_settings settings) {
+    struct korvezul_opening opening = {settings, KORVEZUL_OURS};
+    return opening;
+}
+
+/* What the second operator calls with. */
+static inline struct korvezul_circuit korvezul_theirs(uint32_t label) {
+    struct korvezul_circuit circuit = {label, KORVEZUL_THEIRS};
+    return circuit;
+}
+
+static inline struct korvezul_opening korvezul_opened_by_them(struct korvezul_settings settings) {
+    struct korvezul_opening opening = {settings, KORVEZUL_THEIRS};
+    return opening;
+}
+
+/* Whose label it is, one out of range too: for a host that serves both, as `watch` does with a capture. */
+static inline uint32_t korvezul_party_of(uint32_t label) {
+    return label < KORVEZUL_FIRST_OF_THEIRS ? KORVEZUL_OURS : KORVEZUL_THEIRS;
+}
 
 /* The record of a session. It is the host's memory and the library's content: read a session with
  * korvezul_report, and copy or keep rows and heads as they are. A condition is told by its key: type,
@@ -198,10 +255,10 @@ enum korvezul_thing {
     KORVEZUL_A_CONDITION = 4  /* the condition of the key */
 };
 
-/* A question: a label and a thing, and beside KORVEZUL_A_CONDITION the key of the condition. The key is
- * nobody's otherwise. A number that is no thing stands for nothing: 15. */
+/* A question: a label, who asks and a thing, and beside KORVEZUL_A_CONDITION the key of the condition. The
+ * key is nobody's otherwise. A number that is no thing stands for nothing: 15. */
 struct korvezul_question {
-    uint32_t label;
+    struct korvezul_circuit circuit;
     struct korvezul_key key;
     uint8_t thing;
 };
@@ -331,34 +388,36 @@ uint32_t korvezul_version(void);
 /* Makes a row an empty table at clock 0. The records are not looked at and may hold anything. */
 uint32_t korvezul_empty(const struct korvezul_session *row, size_t records, struct korvezul_head *head);
 
-/* Opens a session in the lowest free place, in the mode of its settings. 26, 1, 10, 11, 12. */
+/* Opens a session in the lowest free place of the row, in the mode of its settings. Places are not shared
+ * out between the parties: 32 and 32 is all that there are. 26, 1, 10, 11, 12. */
 uint32_t korvezul_open(struct korvezul_session *row, size_t records, struct korvezul_head *head,
-                       struct korvezul_settings settings, uint64_t reading);
+                       struct korvezul_opening opening, uint64_t reading);
 
 /* Gives the session of a label up. 26, 1, 2. */
 uint32_t korvezul_close(struct korvezul_session *row, size_t records, struct korvezul_head *head,
-                        uint32_t label, uint64_t reading);
+                        struct korvezul_circuit circuit, uint64_t reading);
 
 /* Locks a session (ADMIN DOWN), or unlocks it. Doing either twice is accepted. 26, 1, 2. */
 uint32_t korvezul_lock(struct korvezul_session *row, size_t records, struct korvezul_head *head,
-                       uint32_t label, uint64_t reading);
+                       struct korvezul_circuit circuit, uint64_t reading);
 uint32_t korvezul_unlock(struct korvezul_session *row, size_t records, struct korvezul_head *head,
-                         uint32_t label, uint64_t reading);
+                         struct korvezul_circuit circuit, uint64_t reading);
 
 /* A message of any octets, from the G-ACh header on, that came in on a label.
  * 26, 1, 2, 3, 4, 5; then of a CC 3, 6, 3, 14; of a CV 3, 6, 3, 7, 3, 7, 14, the first 3 and 7 behind
  * the packet for type and length of the MEP-ID, the second for its value; of a fault message 3, 8, 3, 8,
  * 9. */
 uint32_t korvezul_receive(struct korvezul_session *row, size_t records, struct korvezul_head *head,
-                          uint32_t label, const uint8_t *message, size_t octets, uint64_t reading);
+                          struct korvezul_circuit circuit, const uint8_t *message, size_t octets,
+                          uint64_t reading);
 
-/* The clock moves on. 26, 1. */
+/* The clock, which is both parties', moves on. 26, 1. */
 uint32_t korvezul_tick(struct korvezul_session *row, size_t records, struct korvezul_head *head,
                        uint64_t reading);
 
 /* The report on a label at the clock. Nothing changes. 26, 2. */
 struct korvezul_report_answer korvezul_report(struct korvezul_session *row, size_t records,
-                                              struct korvezul_head *head, uint32_t label);
+                                              struct korvezul_head *head, struct korvezul_circuit circuit);
 
 /* Why a label shows what it shows, at the clock. Nothing changes. 26, 2, 15. */
 struct korvezul_cause korvezul_why(struct korvezul_session *row, size_t records, struct korvezul_head *head,
@@ -370,9 +429,9 @@ struct korvezul_cause korvezul_why(struct korvezul_session *row, size_t records,
  * session its period. Where the host does not keep how long its CVs are, korvezul_read_cv of the buffer has
  * it in `place`. 26, 2, 13. */
 uint32_t korvezul_write_cc(struct korvezul_session *row, size_t records, struct korvezul_head *head,
-                           uint32_t label, uint8_t *buffer, size_t size);
+                           struct korvezul_circuit circuit, uint8_t *buffer, size_t size);
 uint32_t korvezul_write_cv(struct korvezul_session *row, size_t records, struct korvezul_head *head,
-                           uint32_t label, uint8_t *buffer, size_t size);
+                           struct korvezul_circuit circuit, uint8_t *buffer, size_t size);
 
 /* Messages alone, without a table. Refusals: a CC 3, 4, 5, 3, 6, 3; a CV 3, 4, 5, 3, 6, 3, 7, 3, 7; a
  * fault message 3, 4, 5, 3, 8, 3, 8. */
@@ -405,7 +464,9 @@ uint32_t korvezul_write_configuration(uint8_t *buffer, size_t size, uint32_t dis
 
 /* A log of the calls on a table, from the time that it was made empty: the header, and then a record for
  * each call. Each of these writes to the front of a buffer and needs no table; what lies behind is not
- * touched. A record reads back to the call and the answer that it was written from. */
+ * touched. A record reads back to the call and the answer that it was written from. It has no room for a
+ * party: the label says whose call it is. A call on a label that is not the caller's has no record: it is
+ * answered 26, 1, 2 or 10 and changes nothing. */
 
 /* The 8 octets before the first record. 13. */
 uint32_t korvezul_log_header(uint8_t *buffer, size_t size);
@@ -457,6 +518,16 @@ KORVEZUL_PLACE(settings, follow_link, 108);
 KORVEZUL_PLACE(settings, follow_lock, 109);
 KORVEZUL_PLACE(settings, mode, 110);
 
+KORVEZUL_SIZE(circuit, 8);
+KORVEZUL_ALIGNED(circuit, 4);
+KORVEZUL_PLACE(circuit, label, 0);
+KORVEZUL_PLACE(circuit, party, 4);
+
+KORVEZUL_SIZE(opening, 120);
+KORVEZUL_ALIGNED(opening, 8);
+KORVEZUL_PLACE(opening, settings, 0);
+KORVEZUL_PLACE(opening, party, 112);
+
 KORVEZUL_SIZE(key, 16);
 KORVEZUL_ALIGNED(key, 4);
 KORVEZUL_PLACE(key, node, 0);
@@ -506,11 +577,11 @@ KORVEZUL_PLACE(report_answer, rdi, 8);
 KORVEZUL_PLACE(report_answer, blocked, 9);
 KORVEZUL_PLACE(report_answer, conditions, 10);
 
-KORVEZUL_SIZE(question, 24);
+KORVEZUL_SIZE(question, 28);
 KORVEZUL_ALIGNED(question, 4);
-KORVEZUL_PLACE(question, label, 0);
-KORVEZUL_PLACE(question, key, 4);
-KORVEZUL_PLACE(question, thing, 20);
+KORVEZUL_PLACE(question, circuit, 0);
+KORVEZUL_PLACE(question, key, 8);
+KORVEZUL_PLACE(question, thing, 24);
 
 KORVEZUL_SIZE(cause, 48);
 KORVEZUL_ALIGNED(cause, 8);

@@ -1,6 +1,6 @@
 /*
- * Names for the answers, states and modes of korvezul.h, for logs and screens: the words of its comments,
- * short. A number that is no answer, no state or no mode is "unknown".
+ * Names for the answers, states, parties and modes of korvezul.h, for logs and screens: the words of its
+ * comments, short. A number that is none of them is "unknown".
  */
 #ifndef KORVEZUL_NAMES_H
 #define KORVEZUL_NAMES_H
@@ -21,7 +21,7 @@ static inline const char *korvezul_answer_name(uint32_t answer) {
     case KORVEZUL_CONDITIONS: return "four conditions stand";
     case KORVEZUL_RANGE: return "out of range";
     case KORVEZUL_TAKEN: return "label or discriminator taken";
-    case KORVEZUL_FULL: return "table full";
+    case KORVEZUL_FULL: return "all sessions of the party open";
     case KORVEZUL_BUFFER: return "buffer too short";
     case KORVEZUL_LOCKED: return "session locked";
     case KORVEZUL_NOT_SO: return "does not stand";
@@ -39,6 +39,14 @@ static inline const char *korvezul_state_name(uint32_t state) {
     case KORVEZUL_DOWN: return "DOWN";
     case KORVEZUL_INIT: return "INIT";
     case KORVEZUL_UP: return "UP";
+    default: return "unknown";
+    }
+}
+
+static inline const char *korvezul_party_name(uint32_t party) {
+    switch (party) {
+    case KORVEZUL_OURS: return "ours";
+    case KORVEZUL_THEIRS: return "theirs";
     default: return "unknown";
     }
 }
