@@ -280,10 +280,10 @@ static struct korvezul_mep_id some_mep(uint16_t kind) {
     return id;
 }
 
-/* One of 80 of a party, three of them often, so that some sessions are told much in a short time. */
+/* One of 40 of a party, two of them often, so that some sessions are told much in a short time. */
 static uint32_t some_label(void) {
     uint32_t first = once_in(2) ? 16 : KORVEZUL_FIRST_OF_THEIRS;
-    return once_in(50) ? (uint32_t)any() : first + (uint32_t)below(once_in(2) ? 3 : 80);
+    return once_in(50) ? (uint32_t)any() : first + (uint32_t)below(once_in(2) ? 2 : 40);
 }
 
 /* The discriminator that a label mostly has; both parties give out the same. */
