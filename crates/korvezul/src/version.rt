@@ -2,11 +2,10 @@
 ghost use mathlib.Core.Path.{_≡_};
 ghost use Rattle.korvezul.specs.Version.{version};
 
-// 5.2.0: the settings have a mode, in an octet that was nobody's before (5.0); configurations are
-// read and written (5.1); records of a log are written (5.2).
+// 6.0.0: each call but a tick names its party.
 #[no_mangle]
 pub extern "C" fn korvezul_version() -> u32
     ensures { λ r. ⌜ r ≡ version ⌝ }
 {
-    328192
+    393216
 }
