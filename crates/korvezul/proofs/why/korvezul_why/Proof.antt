@@ -23,7 +23,7 @@ use Rattle.row.proofs.scan_row.Symbol.{name as #row·scan-row}
 use Rattle.row.proofs.scan_row.Met as sc-thm
 use Rattle.live.specs.declared.LiveQuestion.{LiveQuestion}
 use Rattle.live.specs.declared.LiveCause.{LiveCause}
-use Rattle.live.specs.Live.{asking, whyAt}
+use Rattle.live.specs.Live.{askedLabel, asking, whyAt}
 use Rattle.live.proofs.Plains.{liveQuestionP, liveCauseP, head-is}
 use Rattle.live.proofs.LiveTable.{asked-live}
 use Rattle.live.proofs.live_target.Symbol as tg-def
@@ -43,13 +43,13 @@ use Rattle.korvezul.proofs.why.korvezul_why.Code.Mir as pieces
 abbrev spelled : Plain → Ty
 spelled p = spell pieces.table (pointee (p .T .written))
 
-said : (ys : List Session) (h : Head) (c : LiveQuestion) (t : Target) → t ≡ aimedAt (c .label) → (z : Summary) → z ≡ summaryOf ys h t → (u : LiveCause) (zs : List Session)
+said : (ys : List Session) (h : Head) (c : LiveQuestion) (t : Target) → t ≡ aimedAt (askedLabel c) → (z : Summary) → z ≡ summaryOf ys h t → (u : LiveCause) (zs : List Session)
     → (u ≡ whyAt ys h z c) × (zs ≡ ys) → record { cause = u; table = tableOf zs (u .head) } ≡ asking (tableOf ys h) c
 said ys h c t e₁ z e₂ u zs e₃ = asked-live ys h c u zs (e₃ .0 ∙ ap (λ (x : Summary). whyAt ys h x c) (e₂ ∙ ap (summaryOf ys h) e₁)) (e₃ .1)
 
 abbrev the-call : lent.Call sessionP headP liveQuestionP liveCauseP summaryP targetP
 the-call = record {
-  aim = λ q. aimedAt (q .label);
+  aim = λ q. aimedAt (askedLabel q);
   summed = summaryOf;
   Ran = λ ys h z c u zs. (u ≡ whyAt ys h z c) × (zs ≡ ys);
   headOf = λ u. u .head;
