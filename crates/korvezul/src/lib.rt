@@ -187,7 +187,11 @@ pub extern "C" fn korvezul_receive(
 
 // The report on a label, at the clock.
 #[no_mangle]
-pub extern "C" fn korvezul_report(row: &mut [Session], head: &mut Head, circuit: Circuit) -> ReportAnswer
+pub extern "C" fn korvezul_report(
+    row: &mut [Session],
+    head: &mut Head,
+    circuit: Circuit,
+) -> ReportAnswer
     ensures { λ r. ⌜ record { said = saidIn r; table = tableOf (now (row .exit)) (now (head .exit)) } ≡ called (tableOf (now (row .entry)) (now (head .entry))) (On (meantBy circuit) ReportOn) ⌝ }
 {
     let q = report_request(circuit);
