@@ -24,5 +24,7 @@ pub mod Machines
 pub mod Sources
 pub mod Readings
 pub mod Orders
+pub mod Foreign
 pub mod Isolation
+pub mod OnItsOwn
 pub mod PartyEdges

@@ -74,6 +74,19 @@ Isolation =
     (row other : List Session) → length row ≡ 64 → length other ≡ 64 → (cs ds : List Named) (p : ℕ)
     → questions (turns p (emptied row) cs) ≡ questions (turns p (emptied other) ds) → turns p (emptied row) cs ≡ turns p (emptied other) ds
 
+-- the same calls with a tick in place of each that does not name the party, to the clock that it leaves
+unfoldable pub othersTick : ℕ → Table → List Named → List Named
+othersTick p t [] = []
+othersTick p t (c ∷ cs) =
+    let left = next t (taken c) in
+    cond (names p c) c (TickTo (left .clock)) ∷ othersTick p left cs
+
+-- so a party is told what it is told on a row of its own, where for the others only the clock goes on
+abbrev pub OnItsOwn : Type 0
+OnItsOwn =
+    (row other : List Session) → length row ≡ 64 → length other ≡ 64 → (cs : List Named) (p : ℕ)
+    → turns p (emptied row) cs ≡ turns p (emptied other) (othersTick p (emptied row) cs)
+
 -- a call on a label that is not its party's: 1 below the clock, then 2 as on a label that is not open
 abbrev pub actRefusal : ℕ → Act → ℕ
 actRefusal now (Close t) = bar (late now t) 1 2
