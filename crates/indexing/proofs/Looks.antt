@@ -83,7 +83,7 @@ module _ (log clocks places : List ℕ) (records : List Session) (l u : ℕ) whe
       (λ d. rw d (let i = inside k first (n / 2) (omega arith) in (omega (arith, i .0), omega (arith, i .1))))))
 
   -- the search went on from an entry exactly if what it found is not before it
-  way : (k first n : ℕ) → 2 ≤ n → leb (getD clocks (first + n / 2) 0) u ≡ leb (first + n / 2) ((halving (suc k) clocks u first n .place))
+  pub way : (k first n : ℕ) → 2 ≤ n → leb (getD clocks (first + n / 2) 0) u ≡ leb (first + n / 2) ((halving (suc k) clocks u first n .place))
   unfolding halving
   way k first n two =
       split (leb (getD clocks (first + n / 2) 0) u)

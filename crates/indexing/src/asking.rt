@@ -15,7 +15,8 @@ ghost use Rattle.indexing.specs.Asking.{headFits, askRefusal, answerAt};
 // The greatest reading.
 const LATEST: u64 = 9_223_372_036_854_775_807;
 
-fn head_fits(h: IndexHead, label: u32, size: u64, room: usize) -> bool
+// An index of this label and of a log of so many octets, with 1 to 256 entries, all of them in the room.
+pub fn head_fits(h: IndexHead, label: u32, size: u64, room: usize) -> bool
     ensures { λ r. ⌜ r ≡ headFits h label size room ⌝ }
 {
     if h.label != label {

@@ -8,6 +8,7 @@ mod numbers;
 
 pub use asking::answer_at;
 pub use asking::ask_refusal;
+pub use asking::head_fits;
 pub use begin::begin_fill;
 pub use building::build;
 pub use entries::fill;

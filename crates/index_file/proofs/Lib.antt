@@ -1,0 +1,6 @@
+pub mod Back
+pub mod Lists
+pub mod Judged
+pub mod Seeks
+pub mod Windows
+pub mod Asked
