@@ -4,9 +4,11 @@ mod question;
 mod search;
 mod words;
 
+pub use question::Number;
 pub use question::Question;
 pub use question::is_asked;
 pub use question::no_question;
+pub use question::number_in;
 pub use question::take_word;
 pub use question::thing_of;
 pub use search::Search;

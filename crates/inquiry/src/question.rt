@@ -67,7 +67,7 @@ fn one_more(n: u64, digit: u64, most: u64) -> Number
 }
 
 // Digits alone, and at least one.
-fn number_in(s: &[u8], most: u64) -> Number
+pub fn number_in(s: &[u8], most: u64) -> Number
     ensures { λ r. ⌜ r ≡ numeral most (now (s .entry)) ⌝ }
 {
     if s.len() == 0 {
