@@ -1,4 +1,4 @@
-/* Stands before the C library's `read` and `write` where `.ci/calls` runs the programs. Each of these variables of the
+/* Stands before the C library's `read`, `pread` and `write` where `.ci/calls` runs the programs. Each of these variables of the
    environment changes what the system answers; without it nothing is changed.
    CALLS_READ: a read of standard input brings at most so many octets.
    CALLS_WRITE: a write to standard output takes at most so many octets.
@@ -27,25 +27,49 @@ static int interrupted(void)
     return 1;
 }
 
-ssize_t read(int fd, void *buffer, size_t room)
+/* Whether what is said of standard input holds of this file. */
+static int counted(int fd)
 {
-    static size_t given;
-    if (fd != STDIN_FILENO && !getenv("CALLS_FILES"))
-        return syscall(SYS_read, fd, buffer, room);
-    if (interrupted())
-        return -1;
+    return fd == STDIN_FILENO || getenv("CALLS_FILES");
+}
+
+/* How many octets a read of so many may bring, behind those that were given: 0 where it fails. */
+static size_t allowed(size_t given, size_t room)
+{
     size_t most = setting("CALLS_READ", room);
     size_t left = setting("CALLS_FAIL", given + room) - given;
-    if (left == 0) {
-        errno = EIO;
-        return -1;
-    }
     if (most > room)
         most = room;
-    ssize_t got = syscall(SYS_read, fd, buffer, most < left ? most : left);
-    if (got > 0)
+    if (left == 0)
+        errno = EIO;
+    return most < left ? most : left;
+}
+
+/* A read at a place, or one at the file's own where the place is below 0. */
+static ssize_t read_from(int fd, void *buffer, size_t room, off_t place)
+{
+    static size_t given;
+    if (counted(fd)) {
+        if (interrupted())
+            return -1;
+        room = allowed(given, room);
+        if (room == 0)
+            return -1;
+    }
+    ssize_t got = place < 0 ? syscall(SYS_read, fd, buffer, room) : syscall(SYS_pread64, fd, buffer, room, place);
+    if (got > 0 && counted(fd))
         given += (size_t)got;
     return got;
+}
+
+ssize_t read(int fd, void *buffer, size_t room)
+{
+    return read_from(fd, buffer, room, -1);
+}
+
+ssize_t pread(int fd, void *buffer, size_t room, off_t place)
+{
+    return read_from(fd, buffer, room, place);
 }
 
 ssize_t write(int fd, const void *buffer, size_t octets)
