@@ -4,3 +4,4 @@ pub mod Judged
 pub mod Seeks
 pub mod Windows
 pub mod Asked
+pub mod Streamed
