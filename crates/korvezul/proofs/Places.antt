@@ -27,6 +27,10 @@ use Rattle.fields.proofs.readers.CvRead.Laws.{mir as cv-read}
 use Rattle.fields.proofs.readers.MepIdRead.Laws.{mir as mep-id-read}
 use Rattle.fields.proofs.readers.FaultRead.Laws.{mir as fault-read}
 use Rattle.logging.proofs.Logged.Laws.{mir as logged}
+use Rattle.coordination.proofs.numbers.StatusNumbers.Laws.{mir as dhc-status}
+use Rattle.coordination.proofs.numbers.SwitchingNumbers.Laws.{mir as dhc-switching}
+use Rattle.coordination.proofs.numbers.DhcNumbers.Laws.{mir as dhc}
+use Rattle.coordination.proofs.numbers.DhcRead.Laws.{mir as dhc-read}
 use Rattle.korvezul.proofs.provisioning.ConfigurationRead.Laws.{mir as configuration-read}
 
 -- a field that begins there
@@ -110,3 +114,15 @@ configuration-read-laid = record { octets = refl; aligned = refl; fields = (refl
 
 pub logged-laid : Laid logged 16 8 (0 ∷ 8 ∷ 12 ∷ 14 ∷ [])
 logged-laid = record { octets = refl; aligned = refl; fields = (refl, (refl, (refl, (refl, refl)))) }
+
+pub dhc-status-laid : Laid dhc-status 16 4 (0 ∷ 4 ∷ 8 ∷ 12 ∷ 13 ∷ 14 ∷ 15 ∷ [])
+dhc-status-laid = record { octets = refl; aligned = refl; fields = (refl, (refl, (refl, (refl, (refl, (refl, (refl, refl))))))) }
+
+pub dhc-switching-laid : Laid dhc-switching 16 4 (0 ∷ 4 ∷ 8 ∷ 12 ∷ 13 ∷ 14 ∷ [])
+dhc-switching-laid = record { octets = refl; aligned = refl; fields = (refl, (refl, (refl, (refl, (refl, (refl, refl)))))) }
+
+pub dhc-laid : Laid dhc 36 4 (0 ∷ 4 ∷ 20 ∷ [])
+dhc-laid = record { octets = refl; aligned = refl; fields = (refl, (refl, (refl, refl))) }
+
+pub dhc-read-laid : Laid dhc-read 40 4 (0 ∷ 4 ∷ [])
+dhc-read-laid = record { octets = refl; aligned = refl; fields = (refl, (refl, refl)) }

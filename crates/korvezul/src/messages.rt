@@ -1,4 +1,7 @@
-// The readers and writers of messages, exported: each is the one of `fields`.
+// The readers and writers of messages, exported: each is the one of `fields`, and of a DHC message the one
+// of `coordination`.
+use coordination::DhcNumbers;
+use coordination::DhcRead;
 use cv::MepId;
 use fields::CcRead;
 use fields::CvRead;
@@ -14,6 +17,9 @@ ghost use Rattle.cv.specs.MepId.{readMep};
 ghost use Rattle.cv.specs.Cv.{cvOctets};
 ghost use Rattle.fault.specs.Message.{faultReading};
 ghost use Rattle.fault.specs.Octets.{faultOctets};
+ghost use Rattle.coordination.specs.Message.{readDhc};
+ghost use Rattle.coordination.specs.Octets.{dhcOctets};
+ghost use Rattle.coordination.specs.Numbers.{dhcFrom, numbersRefusal, numbersBy};
 ghost use Rattle.fields.specs.Fields.{packetFrom, faultFrom};
 ghost use Rattle.fields.specs.Messages.{ccRead, cvReadOf, mepRead, faultRead, ccWriteRefusal, cvWriteRefusal, faultWriteRefusal};
 
@@ -75,4 +81,20 @@ pub extern "C" fn korvezul_write_fault_message(buffer: &mut [u8], fault: FaultFi
     ensures { λ r. ⌜ record { answer = r; buffer = now (buffer .exit) } ≡ writing (faultWriteRefusal fault) (faultOctets (faultFrom fault)) (now (buffer .entry)) ⌝ }
 {
     fields::write_fault(buffer, fault)
+}
+
+// Reads a DHC message.
+#[no_mangle]
+pub extern "C" fn korvezul_read_dhc(message: &[u8]) -> DhcRead
+    ensures { λ r. ⌜ r ≡ numbersBy (readDhc (now (message .entry))) ⌝ }
+{
+    coordination::read_dhc_numbers(message)
+}
+
+// Writes a plain DHC message, 32, 36 or 56 octets.
+#[no_mangle]
+pub extern "C" fn korvezul_write_dhc_message(buffer: &mut [u8], dhc: DhcNumbers) -> u32
+    ensures { λ r. ⌜ record { answer = r; buffer = now (buffer .exit) } ≡ writing (numbersRefusal dhc) (dhcOctets (dhcFrom dhc)) (now (buffer .entry)) ⌝ }
+{
+    coordination::write_dhc_numbers(buffer, dhc)
 }
