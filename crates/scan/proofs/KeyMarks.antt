@@ -1,11 +1,11 @@
--- The keys of the first pairs, one more at a time; the marks, which stand for every key that was there; the search among the pairs before; how many pairs
+-- The keys of the first pairs, one more at a time; the marks and the kept numbers, which stand for every one that was there; the search among the pairs before; how many pairs
 -- are counted; and the first place of a label.
 -- Assumes nothing.
-use mathlib.Core.Path.{_≡_, refl, sym, ap, _∙_}
+use mathlib.Core.Path.{_≡_, refl, sym, ap, _∙_, subst}
 use mathlib.Core.Bool.{Bool, true, false, not, _&&_, _||_}
 use mathlib.Core.List.{List, [], _∷_, _++_, map, map-append, append-nil}
-use mathlib.Core.Logic.{⊎-elim}
-use Prim.Native.Nat.{ℕ, zero, suc, _+_, _%_, _≤_, _<_, min}
+use mathlib.Core.Logic.{_⊎_, inl, inr, ⊎-elim}
+use Prim.Native.Nat.{ℕ, zero, suc, _+_, _/_, _%_, _≤_, _<_, min}
 use native.Mathlib.Omega.{arith}
 use native.Mathlib.Numerals.{add-one}
 use lib.ListN.{length, length-set, getD, set, take, drop, replicate, length-replicate, take-append-drop}
@@ -16,9 +16,8 @@ use Rattle.rules.specs.Lists.{any, only, once}
 use Rattle.rules.proofs.Bools.{split, no-way, or-cases, or-left, or-right, refuted, true-false}
 use Rattle.rules.proofs.Lists.{Inserted, any-inserted, once-inserted, once-head, once-rest, once-cons, numbers-alike}
 use Rattle.rules.proofs.Counting.{oneIf, count, count-inserted}
-use Rattle.rules.specs.Parties.{partyOf}
 use Rattle.rules.proofs.TwoParties.{party-most}
-use Rattle.scan.specs.Distinct.{ownKey, keyIn, keyStands, filled, keys, distinctIn, reachOf, reached, firstWith, placeIn}
+use Rattle.scan.specs.Distinct.{keyIn, keyStands, filled, keys, distinctIn, reachOf, reached, firstWith, placeIn}
 
 -- ---- lists of numbers
 
@@ -59,6 +58,33 @@ take-most xs count =
     (λ t. let h : length xs ≤ count = leb-true (length xs) count t in take-all (min count (length xs)) xs (omega arith) ∙ sym (take-all count xs h))
     (λ t. let h : count < length xs = leb-false (length xs) count t in
     let e : min count (length xs) ≡ count = omega arith in ap (λ (n : ℕ). take n xs) e)
+
+-- an element that passes the test
+any-here : (p : ℕ → Bool) (xs : List ℕ) (i : ℕ) → i < length xs → p (getD xs i 0) ≡ true → any p xs ≡ true
+unfolding any
+any-here p [] i h e = absurd (omega arith)
+any-here p (x ∷ xs) zero h e = or-left (any p xs) e
+any-here p (x ∷ xs) (suc i) h e = or-right (p x) (any-here p xs i (omega arith) e)
+
+first-set : (v x r : Bool) → (v || r) || x ≡ v || (x || r)
+first-set true x r = refl
+first-set false true true = refl
+first-set false true false = refl
+first-set false false true = refl
+first-set false false false = refl
+
+later-set : (v x s g r : Bool) → s || g ≡ v || r → (x || s) || g ≡ v || (x || r)
+later-set true true s g r e = refl
+later-set false true s g r e = refl
+later-set true false s g r e = e
+later-set false false s g r e = e
+
+-- one element put in the place of another
+any-set : (p : ℕ → Bool) (xs : List ℕ) (i v : ℕ) → i < length xs → any p (set xs i v) || p (getD xs i 0) ≡ p v || any p xs
+unfolding any
+any-set p [] i v h = absurd (omega arith)
+any-set p (x ∷ xs) zero v h = first-set (p v) (p x) (any p xs)
+any-set p (x ∷ xs) (suc i) v h = later-set (p v) (p x) (any p (set xs i v)) (p (getD xs i 0)) (any p xs) (any-set p xs i v (omega arith))
 
 -- ---- the keys of the first pairs
 
@@ -133,34 +159,74 @@ set-stays marks at j h e =
     (λ t. ap (λ (k : ℕ). getD (set marks at true) k false) (eqb-true j at t) ∙ getD-set-same marks at true false h)
     (λ f. getD-set-other marks at j true false (eqb-false j at f) ∙ e)
 
--- the keys so far are apart from each other and from 0, and the marks of all are set
-pub record Seen (ks : List ℕ) (marks : List Bool) : Type 0 where
+-- of the numbers so far the marks of all are set, 0's too; each is kept, and from place i on nothing is
+pub record Seen (ks : List ℕ) (i : ℕ) (marks : List Bool) (kept : List ℕ) : Type 0 where
   pub size : length marks ≡ 1024
-  pub apart : once eqb (0 ∷ ks) ≡ true
+  pub room : length kept ≡ 64
   pub marked : (x : ℕ) → any (eqb x) (0 ∷ ks) ≡ true → getD marks (x % 1024) false ≡ true
+  pub holds : (x : ℕ) → any (eqb x) kept || eqb x 0 ≡ any (eqb x) (0 ∷ ks)
+  pub free : (j : ℕ) → i ≤ j → getD kept j 0 ≡ 0
 
-pub seen-none : Seen [] (set (replicate 1024 false) 0 true)
-unfolding once any
+-- of noughts, none but 0 is kept
+any-noughts : (n x : ℕ) → any (eqb x) (replicate n 0) || eqb x 0 ≡ eqb x 0 || false
+unfolding any
+any-noughts zero x = split (eqb x 0) (λ e. rw e) (λ e. rw e)
+any-noughts (suc n) x = let rest = any-noughts n x in split (eqb x 0) (λ e. rw e) (λ e. rw e (rw e at rest))
+
+nought-at : (n j : ℕ) → _≡_ {A = ℕ} (getD (replicate n 0) j 0) 0
+nought-at zero j = refl
+nought-at (suc n) zero = refl
+nought-at (suc n) (suc j) = nought-at n j
+
+pub seen-none : Seen [] 0 (set (replicate 1024 false) 0 true) (replicate 64 0)
+unfolding any
 seen-none = record {
   size = length-set (replicate 1024 false) 0 true ∙ length-replicate {A = Bool} 1024 false;
-  apart = refl;
+  room = length-replicate {A = ℕ} 64 0;
   marked = λ x z. ⊎-elim
       (λ q. ap (λ (y : ℕ). getD (set (replicate 1024 false) 0 true) (y % 1024) false) (eqb-true x 0 q))
       (λ q. no-way q refl)
       (or-cases (eqb x 0) false z);
+  holds = any-noughts 64;
+  free = λ j _. nought-at 64 j;
 }
 
-module _ (ks : List ℕ) (marks : List Bool) (s : Seen ks marks) where
-  -- a key without its mark is a new one
+module _ (ks : List ℕ) (i : ℕ) (marks : List Bool) (kept : List ℕ) (s : Seen ks i marks kept) where
+  -- a number without its mark is a new one
   pub seen-new : (x : ℕ) → getD marks (x % 1024) false ≡ false → any (eqb x) (0 ∷ ks) ≡ false
   seen-new x f = refuted (any (eqb x) (0 ∷ ks)) (λ z. true-false (s .marked x z) f)
 
-  -- one key more, which is a new one
-  pub seen-more : (x : ℕ) → any (eqb x) (0 ∷ ks) ≡ false → Seen (ks ++ (x ∷ [])) (set marks (x % 1024) true)
-  seen-more x new = record {
+  -- where a place is free, a search finds just the numbers so far, and 0
+  pub found-kept : (x : ℕ) → i < 64 → any (eqb x) kept ≡ any (eqb x) (0 ∷ ks)
+  found-kept x h =
+      split (eqb x 0)
+      (λ e.
+      let here : any (eqb x) kept ≡ true = any-here (eqb x) kept i (omega (arith, s .room)) (rw (s .free i (omega arith)) e) in
+      here ∙ sym (sym (s .holds x) ∙ or-left (eqb x 0) here))
+      (λ e. or-none (any (eqb x) kept) e ∙ s .holds x)
+    where
+      or-none : (a : Bool) {b : Bool} → b ≡ false → a ≡ a || b
+      or-none true p = refl
+      or-none false p = sym p
+
+  -- a place where none was noted
+  pub seen-same : Seen ks (i + 1) marks kept
+  seen-same = record {
+    size = s .size;
+    room = s .room;
+    marked = s .marked;
+    holds = s .holds;
+    free = λ j h. s .free j (omega (arith, h));
+  }
+
+  -- one number more
+  pub seen-more : (x : ℕ) → i < 64 → Seen (ks ++ (x ∷ [])) (i + 1) (set marks (x % 1024) true) (set kept i x)
+  seen-more x h = record {
     size = length-set marks (x % 1024) true ∙ s .size;
-    apart = once-inserted eqb numbers-alike (at-end x (0 ∷ ks)) ∙ rw new (s .apart);
+    room = length-set kept i x ∙ s .room;
     marked = marked-more;
+    holds = holds-more;
+    free = λ j g. getD-set-other kept i j x 0 (λ e. omega (arith, g, e)) ∙ s .free j (omega (arith, g));
   }
     where
       at : x % 1024 < length marks
@@ -173,13 +239,73 @@ module _ (ks : List ℕ) (marks : List Bool) (s : Seen ks marks) where
           (λ q. set-stays marks (x % 1024) (y % 1024) at (s .marked y q))
           (or-cases (eqb y x) (any (eqb y) (0 ∷ ks)) (sym (any-inserted (eqb y) (at-end x (0 ∷ ks))) ∙ e))
 
--- the same as the code has it: by what is known of its numbers and of its lists
-pub seen-still : (ks ks′ : List ℕ) (marks marks′ : List Bool) → Seen ks marks → ks′ ≡ ks → marks′ ≡ marks → Seen ks′ marks′
-seen-still ks ks′ marks marks′ s e f = rw (e, f) s
+      holds-more : (y : ℕ) → any (eqb y) (set kept i x) || eqb y 0 ≡ any (eqb y) (0 ∷ (ks ++ (x ∷ [])))
+      holds-more y =
+          ap (λ (n : ℕ). any (eqb y) (set kept i x) || eqb y n) (sym (s .free i (omega arith)))
+          ∙ any-set (eqb y) kept i x (omega (arith, s .room))
+          ∙ ap (λ (b : Bool). eqb y x || b) (found-kept y h)
+          ∙ sym (any-inserted (eqb y) (at-end x (0 ∷ ks)))
 
-pub seen-next : (ks ks′ : List ℕ) (marks marks′ : List Bool) (x z : ℕ) → Seen ks marks → any (eqb x) (0 ∷ ks) ≡ false
-    → z ≡ x → ks′ ≡ ks ++ (x ∷ []) → marks′ ≡ set marks (z % 1024) true → Seen ks′ marks′
-seen-next ks ks′ marks marks′ x z s new d e f = rw (e, f, d) (seen-more ks marks s x new)
+-- the same as the code has it: by what is known of its numbers and of its lists
+pub seen-still : (ks ks′ : List ℕ) (i : ℕ) (marks marks′ : List Bool) (kept kept′ : List ℕ) → Seen ks i marks kept → ks′ ≡ ks → marks′ ≡ marks → kept′ ≡ kept → Seen ks′ (i + 1) marks′ kept′
+seen-still ks ks′ i marks marks′ kept kept′ s e f g = rw (e, f, g) (seen-same ks i marks kept s)
+
+pub seen-next : (ks ks′ : List ℕ) (i : ℕ) (marks marks′ : List Bool) (kept kept′ : List ℕ) (x z : ℕ) → Seen ks i marks kept → i < 64
+    → z ≡ x → ks′ ≡ ks ++ (x ∷ []) → marks′ ≡ set marks (z % 1024) true → kept′ ≡ set kept i z → Seen ks′ (i + 1) marks′ kept′
+seen-next ks ks′ i marks marks′ kept kept′ x z s h d e f g = rw (e, f, g, d) (seen-more ks i marks kept s x h)
+
+-- keys that are apart from each other and from 0, with one more that is a new one
+pub apart-more : (ks ks′ : List ℕ) (x : ℕ) → once eqb (0 ∷ ks) ≡ true → any (eqb x) (0 ∷ ks) ≡ false → ks′ ≡ ks ++ (x ∷ []) → once eqb (0 ∷ ks′) ≡ true
+apart-more ks ks′ x o new e = rw e (once-inserted eqb numbers-alike (at-end x (0 ∷ ks)) ∙ rw new o)
+
+-- the discriminators of the first pairs, whosever they are
+unfoldable pub numbers : ℕ → List ℕ → List ℕ
+numbers count pairs = map (λ p. p / 4294967296) (filled (take count pairs))
+
+module _ (pairs : List ℕ) where
+  numbers-step : (i : ℕ) → i < length pairs → numbers (i + 1) pairs ≡ numbers i pairs ++ map (λ p. p / 4294967296) (filled (getD pairs i 0 ∷ []))
+  unfolding numbers
+  numbers-step i h =
+      rw (add-one, take-suc pairs i 0 h)
+      (ap (map (λ p. p / 4294967296)) (filled-append (take i pairs) (getD pairs i 0 ∷ [])) ∙ map-append (λ p. p / 4294967296) (filled (take i pairs)) (filled (getD pairs i 0 ∷ [])))
+
+  pub numbers-same : (i : ℕ) → i < length pairs → getD pairs i 0 ≡ 0 → numbers (i + 1) pairs ≡ numbers i pairs
+  unfolding filled
+  numbers-same i h e = numbers-step i h ∙ rw (eq-eqb (getD pairs i 0) 0 e) (append-nil (numbers i pairs))
+
+  pub numbers-more : (i : ℕ) → i < length pairs → (getD pairs i 0 ≡ 0 → ⊥) → numbers (i + 1) pairs ≡ numbers i pairs ++ (getD pairs i 0 / 4294967296 ∷ [])
+  unfolding filled
+  numbers-more i h e = numbers-step i h ∙ rw (ne-eqb (getD pairs i 0) 0 e)
+
+-- who has a discriminator within a party has the discriminator
+same-number : (x q : ℕ) → eqb (keyIn false q) x ≡ true → eqb (q / 4294967296) (x / 2) ≡ true
+same-number x q e =
+    eq-eqb (q / 4294967296) (x / 2) (omega (arith, party-most (q % 4294967296), eqb-true (keyIn false q) x e))
+
+among-numbers : (x : ℕ) (ps : List ℕ) → any (eqb x) (map (keyIn false) ps) ≡ true → any (eqb (x / 2)) (map (λ p. p / 4294967296) ps) ≡ true
+unfolding any
+among-numbers x [] e = no-way e refl
+among-numbers x (p ∷ ps) e =
+    ⊎-elim
+    (λ q. or-left _ (numbers-alike .back (x / 2) (p / 4294967296) ∙ same-number x p (numbers-alike .back (keyIn false p) x ∙ q)))
+    (λ q. or-right (eqb (x / 2) (p / 4294967296)) (among-numbers x ps q))
+    (or-cases (eqb x (keyIn false p)) (any (eqb x) (map (keyIn false) ps)) e)
+
+-- so a discriminator that is new is new within its party
+pub new-within : (pairs : List ℕ) (i q : ℕ) → any (eqb (q / 4294967296)) (0 ∷ numbers i pairs) ≡ false → any (eqb (keyIn false q)) (0 ∷ keys false i pairs) ≡ false
+unfolding any numbers
+new-within pairs i q f =
+    refuted (any (eqb (keyIn false q)) (0 ∷ keys false i pairs))
+    (λ z. true-false (there (or-cases (eqb (keyIn false q) 0) (any (eqb (keyIn false q)) (keys false i pairs)) z)) f)
+  where
+    half : keyIn false q / 2 ≡ q / 4294967296
+    half = omega (arith, party-most (q % 4294967296))
+
+    there : (eqb (keyIn false q) 0 ≡ true) ⊎ (any (eqb (keyIn false q)) (keys false i pairs) ≡ true) → any (eqb (q / 4294967296)) (0 ∷ numbers i pairs) ≡ true
+    there (inl z) = or-left _ (eq-eqb (q / 4294967296) 0 (omega (arith, eqb-true (keyIn false q) 0 z)))
+    there (inr z) =
+        or-right (eqb (q / 4294967296) 0)
+        (subst (λ (n : ℕ). any (eqb n) (map (λ p. p / 4294967296) (filled (take i pairs))) ≡ true) half (among-numbers (keyIn false q) (filled (take i pairs)) z))
 
 -- ---- the search among the pairs before
 
@@ -203,15 +329,6 @@ any-key labels x (p ∷ ps) =
     nought : (labels : Bool) (x : ℕ) → (x ≡ 0 → ⊥) → eqb (keyIn labels 0) x ≡ false
     nought true x d = ne-eqb 0 x (λ z. d (sym z))
     nought false x d = ne-eqb 0 x (λ z. d (sym z))
-
--- two discriminators within their parties are one where both are
-pub own-eqb : (l m d e : ℕ) → eqb (ownKey l d) (ownKey m e) ≡ eqb d e && eqb (partyOf l) (partyOf m)
-own-eqb l m d e =
-    split (eqb d e)
-    (λ a. rw a (split (eqb (partyOf l) (partyOf m))
-    (λ b. rw b (eq-eqb (ownKey l d) (ownKey m e) (omega (arith, eqb-true d e a, eqb-true (partyOf l) (partyOf m) b))))
-    (λ b. rw b (ne-eqb (ownKey l d) (ownKey m e) (λ z. eqb-false (partyOf l) (partyOf m) b (omega (arith, eqb-true d e a, z)))))))
-    (λ a. rw a (ne-eqb (ownKey l d) (ownKey m e) (λ z. eqb-false d e a (omega (arith, party-most l, party-most m, z)))))
 
 four : (a b c d : Bool) → (a || b) || (c || d) ≡ (a || c) || (b || d)
 four true b c d = refl

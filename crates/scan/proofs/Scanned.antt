@@ -25,7 +25,7 @@ use Rattle.scan.specs.declared.Summary.{Summary}
 use Rattle.scan.specs.Distinct.{ownKey, rivalIn}
 use Rattle.scan.specs.Passing.{Pass, startOf, passed, failed, takenIn, noted, passOver, judgedOf, passOf, summaryOf}
 use Rattle.scan.proofs.RowPairs.{pairOf, pairsOf, unsoundAt, sound-open, sound-free, pairs-apart, pairs-place, pairs-rival}
-use Rattle.scan.proofs.Parted.{pairs-shared, pairs-full}
+use Rattle.scan.proofs.Parted.{pairs-shared}
 
 -- one record on: a sound one at an occupied place, one that is not sound, and one at a free place
 abbrev atOpen : Pass → ℕ → Session → Pass
@@ -209,9 +209,8 @@ module _ (row : List Session) (head : Head) (target : Target) where
           discriminator-kept,
           pairs-noted,
           pairs-apart (head .clock) (head .occupied) row n all,
-          pairs-shared (head .clock) (head .occupied) row n all,
+          pairs-shared (head .clock) (head .occupied) row n all (target .label),
           pairs-place (head .clock) (target .label) (head .occupied) row n all,
-          pairs-full (head .clock) (head .occupied) row n all (target .label),
         )
 
   fault-said : eqb (ended .fault) 0 ≡ false → summaryOf row head target .sound ≡ false

@@ -13,6 +13,7 @@ use Rattle.table.specs.Places.{firstOn, occupiedOf}
 use Rattle.scan.specs.declared.Target.{Target}
 use Rattle.scan.specs.declared.Progress.{Progress}
 use Rattle.scan.specs.declared.Summary.{Summary}
+use Rattle.scan.specs.declared.Share.{Share}
 use Rattle.scan.specs.Distinct.{keyPair, distinctIn, reachOf, reached, theirsOf, placeIn, rivalIn}
 
 -- before the first record: a row that is not of 64 is not in order, and none of its records is looked at
@@ -78,27 +79,29 @@ unfoldable pub apart : List ℕ → ℕ → Bool
 apart pairs occupied =
     ltb (occupiedOf 64 occupied) 2 || (distinctIn true (reachOf occupied) pairs && distinctIn false (reachOf occupied) pairs)
 
--- how many are theirs. Where fewer than 32 are open nobody has 32, and 0 serves
-unfoldable pub theirsIn : List ℕ → ℕ → ℕ
-theirsIn pairs occupied = cond (ltb (occupiedOf 64 occupied) ownMost) 0 (theirsOf (reached occupied pairs))
-
 -- how many are the party's of a label
 abbrev pub ownCount : ℕ → ℕ → ℕ → ℕ
 ownCount label ours theirs = cond (isOf 0 label) ours theirs
 
--- neither party has more than 32
-abbrev pub shared : ℕ → ℕ → Bool
-shared ours theirs = leb ours ownMost && leb theirs ownMost
+-- of so many open ones these are theirs: neither party has more than 32, and the label's has them all
+abbrev pub sharedOf : ℕ → ℕ → ℕ → Share
+sharedOf label all theirs =
+    record { kept = leb (all - theirs) ownMost && leb theirs ownMost; full = eqb (ownCount label (all - theirs) theirs) ownMost }
+
+-- where fewer than 32 are open nobody has 32, and none is counted
+unfoldable pub shareIn : List ℕ → ℕ → ℕ → Share
+shareIn pairs occupied label =
+    let all = occupiedOf 64 occupied in
+    cond (ltb all ownMost) (record { kept = true; full = false }) (sharedOf label all (theirsOf (reached occupied pairs)))
 
 unfoldable pub judgedOf : List ℕ → Progress → Summary
 judgedOf pairs s =
-    let theirs = theirsIn pairs (s .occupied) in
-    let ours = occupiedOf 64 (s .occupied) - theirs in
+    let share = shareIn pairs (s .occupied) (s .label) in
     record {
       place = placeIn (s .label) (s .occupied) pairs;
-      sound = eqb (s .fault) 0 && (apart pairs (s .occupied) && shared ours theirs);
+      sound = eqb (s .fault) 0 && (apart pairs (s .occupied) && share .kept);
       rival = rivalIn pairs (s .occupied) (placeIn (s .label) (s .occupied) pairs) (s .label) (s .discriminator);
-      full = eqb (ownCount (s .label) ours theirs) ownMost;
+      full = share .full;
     }
 
 -- the whole scan

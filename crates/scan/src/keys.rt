@@ -1,7 +1,6 @@
 // The keys of the open records: no two labels alike, and no two discriminators of one party, with
-// marks, so that only a pair with a key whose mark is there is compared with those before it; the place
+// marks, so that only a number whose mark is there is searched among those before it; the place
 // of a label; whether a label or a discriminator is there; how many labels are theirs.
-use octets::both;
 use octets::either;
 use octets::least;
 ghost use mathlib.Core.Path.{_≡_};
@@ -50,18 +49,14 @@ fn reach(occupied: u64) -> usize
     (64 - u64::leading_zeros(occupied)) as usize
 }
 
-// Two pairs have a key in common. By halves of 32 bits, which are compared four at a time.
+// Two pairs have a key in common.
 fn is_alike(q: u64, p: u64) -> bool
     ensures { λ r. ⌜ r ≡ alike q p ⌝ }
 {
-    let label = label_in(p);
-    let own = rules::party_of(label) == rules::party_of(label_in(q));
-    let numbered = both(discriminator_in(p) == discriminator_in(q), own);
-    either(label == label_in(q), numbered)
+    either(label_in(p) == label_in(q), own_in(p) == own_in(q))
 }
 
-// A key of a pair is 0, or some pair before this place has one of its keys. All of them are looked at:
-// a search with no early end is done four at a time.
+// A key of a pair is 0, or some pair before this place has one of its keys.
 fn key_stands(pairs: &[u64], end: usize, pair: u64) -> bool
     ensures { λ r. ⌜ r ≡ keyStands (take end (now (pairs .entry))) pair ⌝ }
 {
@@ -77,29 +72,55 @@ fn key_stands(pairs: &[u64], end: usize, pair: u64) -> bool
     found
 }
 
+// A number stands among these. All of them are looked at: a search with no early end is done four at a
+// time.
+fn among(numbers: &[u32], number: u32) -> bool
+    ensures { λ r. ⌜ r ≡ any (eqb number) (now (numbers .entry)) ⌝ }
+{
+    let mut found = false;
+    let mut i: usize = 0;
+    while i < numbers.len() {
+        if numbers[i] == number {
+            found = true;
+        }
+        i += 1;
+    }
+    found
+}
+
 // No two labels alike, and no two discriminators of one party: one pass over the noted pairs, with a
-// mark for each key modulo 1,024. 0 is no key; its marks are set ahead of the pass.
+// mark for each label and each discriminator modulo 1,024, and each kept by its place. Only where a mark
+// is there are these searched, and only where that finds the number, as it does where both parties have
+// it, is it asked whose it is. 0 is no key; its marks are set ahead of the pass.
 pub fn distinct(pairs: &[u64], occupied: u64) -> bool
     ensures { λ r. ⌜ r ≡ (distinctIn true (reachOf occupied) (now (pairs .entry)) && distinctIn false (reachOf occupied) (now (pairs .entry))) ⌝ }
 {
     let n = least(reach(occupied), pairs.len());
     let mut labels = [false; 1024];
     let mut others = [false; 1024];
+    let mut own = [0u32; 64];
+    let mut far = [0u32; 64];
     labels[0] = true;
     others[0] = true;
     let mut i: usize = 0;
     while i < n {
         let pair = pairs[i];
         if pair != 0 {
-            let x = (label_in(pair) % 1024) as usize;
-            let y = (own_in(pair) % 1024) as usize;
+            let l = label_in(pair);
+            let d = discriminator_in(pair);
+            let x = (l % 1024) as usize;
+            let y = (d % 1024) as usize;
             if either(labels[x], others[y]) {
-                if key_stands(pairs, i, pair) {
-                    return false;
+                if either(among(&own, l), among(&far, d)) {
+                    if key_stands(pairs, i, pair) {
+                        return false;
+                    }
                 }
             }
             labels[x] = true;
             others[y] = true;
+            own[i] = l;
+            far[i] = d;
         }
         i += 1;
     }

@@ -35,3 +35,9 @@ pub struct Summary {
     pub rival: bool,
     pub full: bool,
 }
+
+// Whether neither party has more open than it may, and whether the party of the label has all of it.
+pub struct Share {
+    pub kept: bool,
+    pub full: bool,
+}

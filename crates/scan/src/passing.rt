@@ -1,5 +1,6 @@
 // What one record adds to the scan, and what the scan comes to.
 use crate::Progress;
+use crate::Share;
 use crate::Summary;
 use crate::Target;
 use crate::keys::distinct;
@@ -15,8 +16,7 @@ ghost use mathlib.Core.Bool.{not, _&&_, cond};
 ghost use lib.Dec.{eqb, ltb};
 ghost use lib.ListN.{length, set};
 ghost use Prim.Native.Nat.{_-_};
-ghost use Rattle.table.specs.Places.{occupiedOf};
-ghost use Rattle.scan.specs.Passing.{startOf, passed, failed, takenIn, noted, apart, theirsIn, ownCount, judgedOf};
+ghost use Rattle.scan.specs.Passing.{startOf, passed, failed, takenIn, noted, apart, ownCount, shareIn, judgedOf};
 
 // Before the first record; a row that is not of 64 is unsound, and nothing in it is looked at.
 pub fn start(records: usize, head: Head, target: Target) -> Progress
@@ -97,27 +97,6 @@ fn apart_by(pairs: &[u64], occupied: u64) -> bool
     distinct(pairs, occupied)
 }
 
-// How many of the open sessions are theirs. Where fewer than 32 are open nobody has 32, and none is
-// counted.
-fn theirs_by(pairs: &[u64], occupied: u64) -> u32
-    ensures { λ r. ⌜ r ≡ theirsIn (now (pairs .entry)) occupied ⌝ }
-{
-    if table::open_count(occupied) < 32 {
-        return 0;
-    }
-    theirs_in(pairs, occupied)
-}
-
-fn ours_by(occupied: u64, theirs: u32) -> u32
-    ensures { λ r. ⌜ r ≡ occupiedOf 64 occupied - theirs ⌝ }
-{
-    let open = table::open_count(occupied);
-    if open < theirs {
-        return 0;
-    }
-    open - theirs
-}
-
 // The party of the label has opened all that it may.
 fn is_full(label: u32, ours: u32, theirs: u32) -> bool
     ensures { λ r. ⌜ r ≡ eqb (ownCount label ours theirs) 32 ⌝ }
@@ -128,23 +107,50 @@ fn is_full(label: u32, ours: u32, theirs: u32) -> bool
     theirs == 32
 }
 
+fn ours_of(all: u32, theirs: u32) -> u32
+    ensures { λ r. ⌜ r ≡ all - theirs ⌝ }
+{
+    if all < theirs {
+        return 0;
+    }
+    all - theirs
+}
+
+// Where fewer than 32 are open nobody has 32, and none is counted.
+fn share_by(pairs: &[u64], occupied: u64, label: u32) -> Share
+    ensures { λ r. ⌜ r ≡ shareIn (now (pairs .entry)) occupied label ⌝ }
+{
+    let open = table::open_count(occupied);
+    if open < 32 {
+        return Share {
+            kept: true,
+            full: false,
+        };
+    }
+    let theirs = theirs_in(pairs, occupied);
+    let ours = ours_of(open, theirs);
+    let kept = both(ours <= 32, theirs <= 32);
+    let full = is_full(label, ours, theirs);
+    Share {
+        kept: kept,
+        full: full,
+    }
+}
+
 // What the scan comes to. A fault is asked for last: asked first, every test of the pass that can fail
 // would carry the whole answer with it.
 pub fn judged(pairs: &[u64], s: Progress) -> Summary
     ensures { λ r. ⌜ r ≡ judgedOf (now (pairs .entry)) s ⌝ }
 {
     let apart = apart_by(pairs, s.occupied);
-    let theirs = theirs_by(pairs, s.occupied);
-    let ours = ours_by(s.occupied, theirs);
-    let shared = both(ours <= 32, theirs <= 32);
+    let share = share_by(pairs, s.occupied, s.label);
     let place = place_in(pairs, s.occupied, s.label);
     let rival = rival_in(pairs, s.occupied, place, s.label, s.discriminator);
-    let full = is_full(s.label, ours, theirs);
-    let sound = both(s.fault == 0, both(apart, shared));
+    let sound = both(s.fault == 0, both(apart, share.kept));
     Summary {
         place: place,
         sound: sound,
         rival: rival,
-        full: full,
+        full: share.full,
     }
 }

@@ -16,18 +16,12 @@ judged-spec =
     (λ c κs. search needs)
     (λ c κs. search needs)
     (λ c κs. search needs)
-    (λ c κs. search needs)
-    (λ c κs. search needs)
-    (λ c κs. search needs)
     (λ c.
     rw (
-      c .both3 .ensures,
-      c .before .both2 .ensures,
-      c .before .before .before .is-full .ensures,
-      c .before .before .before .before .rival-in .ensures,
-      c .before .before .before .before .before .place-in .ensures,
-      c .before .before .before .before .before .before .both .ensures,
-      c .before .before .before .before .before .before .before .ours-by .ensures,
-      c .before .before .before .before .before .before .before .before .theirs-by .ensures,
-      c .before .before .before .before .before .before .before .before .before .apart-by .ensures,
+      c .both2 .ensures,
+      c .before .both .ensures,
+      c .before .before .before .rival-in .ensures,
+      c .before .before .before .before .place-in .ensures,
+      c .before .before .before .before .before .share-by .ensures,
+      c .before .before .before .before .before .before .apart-by .ensures,
     )))
