@@ -34,11 +34,10 @@ static void accepted(uint32_t answer) {
     }
 }
 
-/* Ours from 16 or 100 on; theirs from the first multiple of 1,024 on that is theirs, and 16 or 100. */
+/* In the worst state theirs are alike modulo 1,024 to ours; in the usual one no two labels are. */
 static uint32_t label_of(unsigned i) {
-    uint32_t first = i < KORVEZUL_PARTY_SESSIONS ? 0 : (KORVEZUL_FIRST_OF_THEIRS + 1023) / 1024 * 1024;
-    uint32_t n = i % KORVEZUL_PARTY_SESSIONS;
-    return first + (worst ? 16 + 1024 * n : 100 + n);
+    uint32_t n = i % KORVEZUL_PARTY_SESSIONS, first = i < KORVEZUL_PARTY_SESSIONS ? 0 : KORVEZUL_FIRST_OF_THEIRS;
+    return worst ? (first + 1023) / 1024 * 1024 + 16 + 1024 * n : first + 100 + n;
 }
 
 static struct korvezul_circuit circuit_of(unsigned i) {
