@@ -5,3 +5,4 @@ pub mod Seeks
 pub mod Windows
 pub mod Asked
 pub mod Streamed
+pub mod Goes
