@@ -6,3 +6,4 @@ pub mod Windows
 pub mod Asked
 pub mod Streamed
 pub mod Goes
+pub mod Entire
