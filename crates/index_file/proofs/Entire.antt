@@ -3,24 +3,35 @@
 use Prim.Native.Nat.{ℕ, zero, suc, min, _+_, _*_, _-_, _/_, _≤_, _<_}
 use native.Mathlib.Omega.{arith}
 use mathlib.Core.Path.{_≡_, refl, sym, ap, _∙_}
-use mathlib.Core.Bool.{Bool, true, false, cond}
+use mathlib.Core.Bool.{Bool, true, false, cond, _&&_}
 use mathlib.Core.List.{List, []}
 use lib.ListN.{length, take, drop, length-drop}
 use lib.Seq.{sets, drop-drop}
 use lib.Dec.{eqb, ltb}
-use borrow.Author.Tests.{eqb-true, eqb-false, eq-eqb, ne-eqb, lt-ltb}
+use borrow.Author.Tests.{eqb-true, eqb-false, eq-eqb, ne-eqb, lt-ltb, ltb-true}
+use Rattle.octets.specs.Choice.{need}
+use Rattle.octets.proofs.Chain.{and-both}
 use Rattle.rules.proofs.Bools.{split}
 use Rattle.log.specs.declared.Point.{Point}
 use Rattle.log.specs.declared.Ended.{Ended}
-use Rattle.log.specs.Reading.{readTo, never, atStart}
+use Rattle.log.specs.Records.{headerFits}
+use Rattle.log.specs.Reading.{readTo, endedAt, never, atStart, readAll, countOf}
+use Rattle.log.specs.Entries.{restAfter, pointAfter, entryPoint, entryRest, entryPlace}
+use Rattle.log.proofs.Asking.{OurLog}
 use Rattle.log.proofs.Turns.{left-most, spare-most}
+use Rattle.indexing.specs.Filling.{entriesOf}
+use Rattle.indexing.proofs.Counts.{header-size}
+use Rattle.indexing.proofs.Filled.{place-rest, entry-next}
+use Rattle.session.specs.declared.Session.{Session}
+use Rattle.index_file.specs.declared.Entry.{Entry}
 use Rattle.index_file.specs.declared.Indexing.{Indexing}
 use Rattle.index_file.specs.Octets.{entryOctets}
 use Rattle.index_file.specs.Files.{placeOf}
 use Rattle.index_file.specs.Windows.{windowOf}
-use Rattle.index_file.specs.Blocks.{entryFor, Building, blockOf, blocksOf}
+use Rattle.index_file.specs.Blocks.{startOf, entryFor, Building, blockOf, blocksOf}
 use Rattle.index_file.proofs.Streamed.{stepOf, block-step}
-use Rattle.index_file.proofs.Goes.{joined-read, stopped-read}
+use Rattle.index_file.proofs.Goes.{joined-read, stopped-read, same-reads}
+use Rattle.index_file.proofs.Windows.{header-front}
 
 -- where no entry is to be put, nothing changes
 done : (j : ℕ) (log : List ℕ) (b : Building) → b .indexing .more ≡ false → blocksOf j log b ≡ b
@@ -119,7 +130,7 @@ module _ (log : List ℕ) (l : ℕ) where
           sym w ∙ ap (λ (x : ℕ). readTo x l never (drop 8 log) atStart .left) n ∙ left
 
       -- from entry k on, every entry up to the last
-      runs : (j k : ℕ) (out : List ℕ) → j + k ≡ 256 → k ≤ last
+      pub runs : (j k : ℕ) (out : List ℕ) → j + k ≡ 256 → k ≤ last
           → blocksOf j log (record { indexing = entryBefore k; out = out }) ≡ record { indexing = endedAfter last; out = putFrom (suc last - k) k out }
       runs zero k out e h = absurd (omega arith)
       runs (suc j) k out e h =
@@ -141,3 +152,61 @@ module _ (log : List ℕ) (l : ℕ) where
           goes ∙ ap (λ (x : Indexing). blocksOf j log (record { indexing = x; out = putAt k out })) (step-on k (omega arith) (full (suc k) less))
           ∙ runs j (suc k) (putAt k out) (omega arith) less
           ∙ (λ i. record { indexing = endedAfter last; out = (put ∙ ap (λ (n : ℕ). putFrom n k out) more) i }))
+
+-- ---- from the header on
+-- what counting says
+record Counts (log : List ℕ) : Type 0 where
+  pub header : headerFits log ≡ true
+  pub left : readAll log .left ≡ 0
+  pub spare : 0 < readAll log .spare
+  pub count : countOf log .count ≡ 65536 - readAll log .spare
+
+counted : (log : List ℕ) → countOf log .answer ≡ 0 → Counts log
+unfolding countOf
+counted log e =
+    split (headerFits log)
+    (λ h. let r = readAll log in
+    split (eqb (r .left) 0 && ltb 0 (r .spare))
+    (λ t. let b = and-both (eqb (r .left) 0) (ltb 0 (r .spare)) t in
+    record { header = h; left = eqb-true (r .left) 0 (b .0); spare = ltb-true 0 (r .spare) (b .1); count = rw (h, t) refl })
+    (λ t. absurd (let z : _≡_ {A = ℕ} 19 0 = rw (h, t) at e in omega arith)))
+    (λ h. absurd (let z : _≡_ {A = ℕ} 19 0 = rw h at e in omega arith))
+
+starts : (log : List ℕ) (l w : ℕ) → 8 ≤ w → headerFits log ≡ true → startOf (take w log) l ≡ entryBefore log l 0
+unfolding readTo
+starts log l w h e =
+    let f = header-front w log h ∙ e in
+    let place : 8 ≡ length log - length (drop 8 log) = omega (arith, length-drop 8 log, header-size log e) in
+    λ i. record { point = atStart; place = place i; count = 0; label = l; answer = need (f i) 19 0; more = f i }
+
+-- of a log that is counted with 0, however long its front is: every entry is put, and the place behind the last is the log's length
+pub streamed : (log : List ℕ) (l w : ℕ) (out : List ℕ) → 8 ≤ w → length log ≤ 18446744073709551615 → countOf log .answer ≡ 0
+    → blocksOf 256 log (record { indexing = startOf (take w log) l; out = out })
+    ≡ record { indexing = endedAfter log l (countOf log .count / 256); out = putFrom log l (entriesOf (countOf log .count)) 0 out }
+streamed log l w out h small e =
+    let c = counted log e in
+    let r = same-reads l 0 never 65536 (drop 8 log) atStart atStart in
+    let left : behindEntry log l 256 .left ≡ 0 = r .0 ∙ c .left in
+    let spare : 0 < behindEntry log l 256 .spare = omega (arith, r .1, c .spare) in
+    let n : 65536 - behindEntry log l 256 .spare ≡ countOf log .count = ap (λ (x : ℕ). 65536 - x) (r .1) ∙ sym (c .count) in
+    let all : suc (countOf log .count / 256) - 0 ≡ entriesOf (countOf log .count) = omega arith in
+    ap (λ (x : Indexing). blocksOf 256 log (record { indexing = x; out = out })) (starts log l w h (c .header))
+    ∙ runs log l small (header-size log (c .header)) left spare 256 0 out (omega arith) (omega arith)
+    ∙ (λ i. record { indexing = endedAfter log l (n i / 256); out = putFrom log l (suc (n i / 256) - 0) 0 out })
+    ∙ (λ i. record { indexing = endedAfter log l (countOf log .count / 256); out = putFrom log l (all i) 0 out })
+
+-- ---- a log whose answers are our run's
+-- the entries that are put are those that `records-built` and `numbers-built` find in what building in one call leaves
+module _ (row : List Session) (log : List ℕ) (n : ℕ) (our : OurLog row log n) (l : ℕ) (small : length log ≤ 18446744073709551615) (header : 8 ≤ length log) where
+  ours-behind : (k : ℕ) → 256 * k ≤ n → behindEntry log l k ≡ endedAt 0 (entryRest log k) (entryPoint l log k)
+  ours-behind zero h = unfold readTo restAfter pointAfter in refl
+  ours-behind (suc k) h =
+      let e = ours-behind k (omega arith) in
+      let one : k + 1 ≡ suc k = omega arith in
+      sym (next-read log l small header k (ap (λ (x : Ended). x .spare) e))
+      ∙ ap (λ (x : Ended). readTo 256 l never (drop (length log - x .left) log) (x .point)) e
+      ∙ ap (λ (y : List ℕ). readTo 256 l never y (entryPoint l log k)) (place-rest row log n our l k header (omega arith))
+      ∙ entry-next row log n our l k (omega arith) ∙ ap (λ (j : ℕ). endedAt 0 (entryRest log j) (entryPoint l log j)) one
+
+  pub entry-ours : (k : ℕ) → 256 * k ≤ n → entryFor (entryBefore log l k) ≡ record { clock = entryPoint l log k .clock; place = entryPlace log k; session = entryPoint l log k .session }
+  entry-ours k h = let e = ours-behind k h in λ i. record { clock = e i .point .clock; place = length log - e i .left; session = e i .point .session }
