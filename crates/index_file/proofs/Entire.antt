@@ -8,7 +8,7 @@ use mathlib.Core.List.{List, []}
 use lib.ListN.{length, take, drop, length-drop}
 use lib.Seq.{sets, drop-drop}
 use lib.Dec.{eqb, ltb}
-use borrow.Author.Tests.{eqb-true, eqb-false, eq-eqb, ne-eqb, lt-ltb, ltb-true}
+use borrow.Author.Tests.{eqb-true, eqb-false, eq-eqb, ne-eqb, lt-ltb, ltb-true, ltb-false}
 use Rattle.octets.specs.Choice.{need}
 use Rattle.octets.proofs.Chain.{and-both}
 use Rattle.rules.proofs.Bools.{split}
@@ -28,7 +28,7 @@ use Rattle.index_file.specs.declared.Indexing.{Indexing}
 use Rattle.index_file.specs.Octets.{entryOctets}
 use Rattle.index_file.specs.Files.{placeOf}
 use Rattle.index_file.specs.Windows.{windowOf}
-use Rattle.index_file.specs.Blocks.{startOf, entryFor, Building, blockOf, blocksOf}
+use Rattle.index_file.specs.Blocks.{startOf, refusedAt, entryFor, Building, blockOf, blocksOf}
 use Rattle.index_file.proofs.Streamed.{stepOf, block-step}
 use Rattle.index_file.proofs.Goes.{joined-read, stopped-read, same-reads}
 use Rattle.index_file.proofs.Windows.{header-front}
@@ -153,6 +153,42 @@ module _ (log : List ℕ) (l : ℕ) where
           ∙ runs j (suc k) (putAt k out) (omega arith) less
           ∙ (λ i. record { indexing = endedAfter last; out = (put ∙ ap (λ (n : ℕ). putFrom n k out) more) i }))
 
+    -- a log that is not counted with 0: a cut record, or one too many
+    module _ (bad : behindEntry 256 .left ≡ 0 → 0 < behindEntry 256 .spare → ⊥) where
+      step-cut : (k : ℕ) → k < 256 → 0 < behindEntry (suc k) .spare → stepOf log (entryBefore k) (behindEntry (suc k)) ≡ refusedAt (entryBefore k)
+      step-cut k h some =
+          let n : 256 * suc k + (256 * 256 - 256 * suc k) ≡ 256 * 256 = omega arith in
+          let w = stopped-read l never (256 * suc k) (256 * 256 - 256 * suc k) (drop 8 log) atStart some in
+          let left : behindEntry 256 .left ≡ behindEntry (suc k) .left = ap (λ (x : ℕ). readTo x l never (drop 8 log) atStart .left) (sym n) ∙ w .0 in
+          let spare : behindEntry 256 .spare ≡ behindEntry (suc k) .spare + (256 * 256 - 256 * suc k) = ap (λ (x : ℕ). readTo x l never (drop 8 log) atStart .spare) (sym n) ∙ w .1 in
+          let cut : behindEntry (suc k) .left ≡ 0 → ⊥ = λ z. bad (left ∙ z) (omega (arith, spare, some)) in
+          rw (ne-eqb (behindEntry (suc k) .spare) 0 (λ z. omega arith), ne-eqb (behindEntry (suc k) .left) 0 cut) refl
+
+      step-many : behindEntry 256 .spare ≡ 0 → stepOf log (entryBefore 255) (behindEntry 256) ≡ refusedAt (entryBefore 255)
+      step-many e = rw (eq-eqb (behindEntry 256 .spare) 0 e) refl
+
+      runs-refused : (j k : ℕ) (out : List ℕ) → j + k ≡ 256 → k < 256 → behindEntry k .spare ≡ 0
+          → blocksOf j log (record { indexing = entryBefore k; out = out }) .indexing .answer ≡ 19
+      runs-refused zero k out e h full = absurd (omega arith)
+      runs-refused (suc j) k out e h full =
+          let one-block : blocksOf (suc j) log (record { indexing = entryBefore k; out = out }) ≡ blocksOf j log (blockOf out (entryBefore k) (windowOf log (entryBefore k .place))) = unfold blocksOf in refl in
+          let goes = one-block ∙ ap (blocksOf j log) (block-at k out full) in
+          let ends : stepOf log (entryBefore k) (behindEntry (suc k)) ≡ refusedAt (entryBefore k) → blocksOf (suc j) log (record { indexing = entryBefore k; out = out }) .indexing .answer ≡ 19 =
+          λ z. ap (λ (b : Building). b .indexing .answer) (goes ∙ ap (λ (x : Indexing). blocksOf j log (record { indexing = x; out = putAt k out })) z ∙ done j log _ refl) in
+          split (eqb (behindEntry (suc k) .spare) 0)
+          (λ q.
+          let more = eqb-true (behindEntry (suc k) .spare) 0 q in
+          split (ltb k 255)
+          (λ f.
+          let less = ltb-true k 255 f in
+          ap (λ (b : Building). b .indexing .answer) (goes ∙ ap (λ (x : Indexing). blocksOf j log (record { indexing = x; out = putAt k out })) (step-on k less more))
+          ∙ runs-refused j (suc k) (putAt k out) (omega arith) (omega arith) more)
+          (λ f.
+          let here : 255 ≡ k = omega (arith, ltb-false k 255 f) in
+          let next : suc k ≡ 256 = omega arith in
+          ends (ap (λ (m : ℕ). stepOf log (entryBefore m) (behindEntry (suc m))) (sym here) ∙ step-many (ap (λ (m : ℕ). behindEntry m .spare) (sym next) ∙ more) ∙ ap (λ (m : ℕ). refusedAt (entryBefore m)) here)))
+          (λ q. let some = eqb-false (behindEntry (suc k) .spare) 0 q in ends (step-cut k h (omega (arith, some))))
+
 -- ---- from the header on
 -- what counting says
 record Counts (log : List ℕ) : Type 0 where
@@ -194,6 +230,39 @@ streamed log l w out h small e =
     ∙ runs log l small (header-size log (c .header)) left spare 256 0 out (omega arith) (omega arith)
     ∙ (λ i. record { indexing = endedAfter log l (n i / 256); out = putFrom log l (suc (n i / 256) - 0) 0 out })
     ∙ (λ i. record { indexing = endedAfter log l (countOf log .count / 256); out = putFrom log l (all i) 0 out })
+
+-- counting says 0 or 19
+nineteen : (log : List ℕ) → (countOf log .answer ≡ 0 → ⊥) → countOf log .answer ≡ 19
+unfolding countOf
+nineteen log other =
+    split (headerFits log)
+    (λ f. split (eqb (readAll log .left) 0 && ltb 0 (readAll log .spare)) (λ t. absurd (other (rw (f, t) refl))) (λ t. rw (f, t) refl))
+    (λ f. rw f refl)
+
+-- a good header, and yet refused
+unread : (log : List ℕ) → headerFits log ≡ true → (countOf log .answer ≡ 0 → ⊥) → readAll log .left ≡ 0 → 0 < readAll log .spare → ⊥
+unfolding countOf
+unread log f other a b = other (rw (f, eq-eqb (readAll log .left) 0 a, lt-ltb 0 (readAll log .spare) b) refl)
+
+-- of any log, the answer is that of counting: 0, or 19
+pub streamed-answer : (log : List ℕ) (l w : ℕ) (out : List ℕ) → 8 ≤ w → length log ≤ 18446744073709551615
+    → blocksOf 256 log (record { indexing = startOf (take w log) l; out = out }) .indexing .answer ≡ countOf log .answer
+streamed-answer log l w out h small =
+    split (eqb (countOf log .answer) 0)
+    (λ e. let good = eqb-true (countOf log .answer) 0 e in ap (λ (b : Building). b .indexing .answer) (streamed log l w out h small good) ∙ sym good)
+    (λ e.
+    let other = eqb-false (countOf log .answer) 0 e in
+    split (headerFits log)
+    (λ f.
+    let r = same-reads l 0 never 65536 (drop 8 log) atStart atStart in
+    let bad : behindEntry log l 256 .left ≡ 0 → 0 < behindEntry log l 256 .spare → ⊥ = λ a b. unread log f other (sym (r .0) ∙ a) (omega (arith, r .1, b)) in
+    let none : behindEntry log l 0 .spare ≡ 0 = unfold readTo in refl in
+    ap (λ (x : Indexing). blocksOf 256 log (record { indexing = x; out = out }) .indexing .answer) (starts log l w h f)
+    ∙ runs-refused log l small (header-size log f) bad 256 0 out (omega arith) (omega arith) none ∙ sym (nineteen log other))
+    (λ f.
+    let none = header-front w log h ∙ f in
+    ap (λ (b : Building). b .indexing .answer) (done 256 log (record { indexing = startOf (take w log) l; out = out }) none)
+    ∙ ap (λ (b : Bool). need b 19 0) none ∙ sym (nineteen log other)))
 
 -- ---- a log whose answers are our run's
 -- the entries that are put are those that `records-built` and `numbers-built` find in what building in one call leaves
