@@ -7,3 +7,4 @@ pub mod Asked
 pub mod Streamed
 pub mod Goes
 pub mod Entire
+pub mod Stretches
