@@ -46,13 +46,13 @@ same-looks f g (suc k) clocks u first n are =
     (λ d. let on = same-looks f g k clocks u first (n / 2) (λ i a b. are i (omega arith) (omega arith)) in rw (e, d) (λ i. here i && on i)))
 
 module _ (log s : List ℕ) (l u : ℕ) where
-  clock-at : (i : ℕ) → i < 256 → getD (clocksIn s) i 0 ≡ entryAt s i .clock
+  pub clock-at : (i : ℕ) → i < 256 → getD (clocksIn s) i 0 ≡ entryAt s i .clock
   clock-at i h = unfold entryIn in each-at (clockAt s) 256 i 0 h
 
-  place-at : (i : ℕ) → i < 256 → getD (placesIn s) i 0 ≡ entryAt s i .place
+  pub place-at : (i : ℕ) → i < 256 → getD (placesIn s) i 0 ≡ entryAt s i .place
   place-at i h = each-at (λ k. entryAt s k .place) 256 i 0 h
 
-  record-at : (i : ℕ) → i < 256 → getD (recordsIn s) i absent ≡ entryAt s i .session
+  pub record-at : (i : ℕ) → i < 256 → getD (recordsIn s) i absent ≡ entryAt s i .session
   record-at i h = each-at (λ k. entryAt s k .session) 256 i absent h
 
   fits-at : (i : ℕ) → i < 256 → fitsIn s l (length log) i ≡ fitsAt (length log) (clocksIn s) (placesIn s) (recordsIn s) l i
@@ -99,7 +99,7 @@ module _ (log s : List ℕ) (l u : ℕ) where
         ap (λ (n : ℕ). told (usedIn s count (length log) l (found (clocksIn s) u 0 n))) m ∙ told-used
 
   -- the head's own refusals
-  refusal-is : askRefusal log (headOf s) l u (roomOf (length (clocksIn s)) (length (placesIn s)) (length (recordsIn s))) ≡ seekRefusal (headOf s) (headerFits log) (length log) l u
+  pub refusal-is : askRefusal log (headOf s) l u (roomOf (length (clocksIn s)) (length (placesIn s)) (length (recordsIn s))) ≡ seekRefusal (headOf s) (headerFits log) (length log) l u
   unfolding askRefusal
   refusal-is = rw (each-length (clockAt s) 0 256, each-length (λ k. entryAt s k .place) 0 256, each-length (λ k. entryAt s k .session) 0 256) refl
 

@@ -8,3 +8,4 @@ pub mod Streamed
 pub mod Goes
 pub mod Entire
 pub mod Stretches
+pub mod Together
