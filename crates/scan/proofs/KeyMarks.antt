@@ -17,7 +17,8 @@ use Rattle.rules.proofs.Bools.{split, no-way, or-cases, or-left, or-right, refu
 use Rattle.rules.proofs.Lists.{Inserted, any-inserted, once-inserted, once-head, once-rest, once-cons, numbers-alike}
 use Rattle.rules.proofs.Counting.{oneIf, count, count-inserted}
 use Rattle.rules.proofs.TwoParties.{party-most}
-use Rattle.scan.specs.Distinct.{keyIn, keyStands, filled, keys, distinctIn, reachOf, reached, firstWith, placeIn}
+use Rattle.rules.specs.Parties.{partyOf}
+use Rattle.scan.specs.Distinct.{ownKey, keyIn, keyStands, filled, keys, distinctIn, reachOf, reached, firstWith, placeIn}
 
 -- ---- lists of numbers
 
@@ -276,6 +277,15 @@ module _ (pairs : List ℕ) where
   pub numbers-more : (i : ℕ) → i < length pairs → (getD pairs i 0 ≡ 0 → ⊥) → numbers (i + 1) pairs ≡ numbers i pairs ++ (getD pairs i 0 / 4294967296 ∷ [])
   unfolding filled
   numbers-more i h e = numbers-step i h ∙ rw (ne-eqb (getD pairs i 0) 0 e)
+
+-- two discriminators within their parties are one where both are
+pub own-eqb : (l m d e : ℕ) → eqb (ownKey l d) (ownKey m e) ≡ eqb d e && eqb (partyOf l) (partyOf m)
+own-eqb l m d e =
+    split (eqb d e)
+    (λ a. rw a (split (eqb (partyOf l) (partyOf m))
+    (λ b. rw b (eq-eqb (ownKey l d) (ownKey m e) (omega (arith, eqb-true d e a, eqb-true (partyOf l) (partyOf m) b))))
+    (λ b. rw b (ne-eqb (ownKey l d) (ownKey m e) (λ z. eqb-false (partyOf l) (partyOf m) b (omega (arith, eqb-true d e a, z)))))))
+    (λ a. rw a (ne-eqb (ownKey l d) (ownKey m e) (λ z. eqb-false d e a (omega (arith, party-most l, party-most m, z)))))
 
 -- who has a discriminator within a party has the discriminator
 same-number : (x q : ℕ) → eqb (keyIn false q) x ≡ true → eqb (q / 4294967296) (x / 2) ≡ true

@@ -50,4 +50,4 @@ module _ (clock set : ℕ) (row : List Session) (n : length row ≡ 64) (all : a
       let ours : openCount - heldOf 1 ≡ heldOf 0 = omega (arith, sum) in
       let own : eqb (ownCount label (heldOf 0) (heldOf 1)) ownMost ≡ eqb (heldOf (partyOf label)) ownMost =
       split (ltb label theirFirst) (λ o. rw o) (λ o. rw o) in
-      rw (e, pairs-theirs clock set row n all, ours, own))
+      rw (e, pairs-theirs clock set row all, ours, own))

@@ -93,16 +93,6 @@ with-front label (x ∷ xs) ys e =
     suc-out true m n = refl
     suc-out false m n = refl
 
-any-noughts : (test : ℕ → Bool) (n : ℕ) → test 0 ≡ false → any test (replicate n 0) ≡ false
-unfolding any
-any-noughts test zero e = refl
-any-noughts test (suc n) e = let rest = any-noughts test n e in rw e rest
-
-any-front : (test : ℕ → Bool) (xs ys : List ℕ) → any test ys ≡ false → any test xs ≡ any test (xs ++ ys)
-unfolding any
-any-front test [] ys e = sym e
-any-front test (x ∷ xs) ys e = ap (λ (b : Bool). test x || b) (any-front test xs ys e)
-
 module _ (set : ℕ) (row : List Session) (n : length row ≡ 64) where
   behind : drop (reachOf set) (pairsOf set row) ≡ replicate (length (drop (reachOf set) (pairsOf set row))) 0
   unfolding reachOf
@@ -120,11 +110,6 @@ module _ (set : ℕ) (row : List Session) (n : length row ≡ 64) where
       ap (λ (l : List ℕ). cond (ltb (firstWith label (reached set (pairsOf set row))) (length (reached set (pairsOf set row)))) (firstWith label (reached set (pairsOf set row))) (length l)) (sym whole)
       ∙ with-front label (reached set (pairsOf set row)) (drop (reachOf set) (pairsOf set row)) none
       ∙ ap (firstWith label) whole
-
-  any-reached : (test : ℕ → Bool) → test 0 ≡ false → any test (reached set (pairsOf set row)) ≡ any test (pairsOf set row)
-  any-reached test e =
-      any-front test (reached set (pairsOf set row)) (drop (reachOf set) (pairsOf set row)) (ap (any test) behind ∙ any-noughts test (length (drop (reachOf set) (pairsOf set row))) e)
-      ∙ ap (any test) whole
 
 -- the place of a label is in the row where an open record has it
 pub place-any : (label set : ℕ) (rows : List Session) → ltb (placeOf label set rows) (length rows) ≡ any (hasLabel label) (opens set rows)
@@ -302,15 +287,15 @@ module _ (clock : ℕ) where
       four false true false d = refl
       four false false c d = refl
 
-  pub pairs-rival : (label discriminator set : ℕ) (rows : List Session) → length rows ≡ 64 → (discriminator ≡ 0 → ⊥) → any unsoundAt (opens set rows) ≡ false
-      → rivalIn (pairsOf set rows) set (placeOf label set rows) label discriminator
+  pub pairs-rival : (label discriminator set : ℕ) (rows : List Session) → (discriminator ≡ 0 → ⊥) → any unsoundAt (opens set rows) ≡ false
+      → rivalIn (pairsOf set rows) (placeOf label set rows) label discriminator
       ≡ any (λ r. eqb (r .settings .label) label || eqb (ownDiscriminator (r .settings)) (ownKey label discriminator)) (opens set rows)
   unfolding rivalIn
-  pairs-rival label discriminator set rows n d e =
+  pairs-rival label discriminator set rows d e =
       let key = ownKey label discriminator in
       let some : key ≡ 0 → ⊥ = λ z. d (omega (arith, z)) in
       let other : Session → Bool = λ r. eqb (ownDiscriminator (r .settings)) key in
-      rw (length-pairs set rows, place-any label set rows, ne-eqb discriminator 0 d, any-reached set rows n (λ p. eqb (keyIn false p) key) (ne-eqb 0 key (λ z. some (sym z))), any-pairs key set rows some e)
+      rw (length-pairs set rows, place-any label set rows, ne-eqb discriminator 0 d, any-pairs key set rows some e)
       (or-cond (any (hasLabel label) (opens set rows)) (any other (opens set rows)) ∙ any-either (hasLabel label) other (opens set rows))
     where
       or-cond : (a b : Bool) → cond a true b ≡ a || b
@@ -318,26 +303,15 @@ module _ (clock : ℕ) where
       or-cond false b = refl
 
   -- the labels that are theirs are those of their records
-  count-filled : (q : ℕ → Bool) → q 0 ≡ false → (ps : List ℕ) → count q ps ≡ count q (filled ps)
-  unfolding filled
-  count-filled q z [] = refl
-  count-filled q z (p ∷ ps) =
-      split (eqb p 0)
-      (λ e. rw e (count-cons q p ps ∙ ap (λ (b : Bool). oneIf b (count q ps)) (ap q (eqb-true p 0 e) ∙ z) ∙ count-filled q z ps))
-      (λ e. rw e (count-cons q p ps ∙ ap (oneIf (q p)) (count-filled q z ps) ∙ sym (count-cons q p (filled ps))))
-
-  count-theirs : (rs : List Session) → any unsoundAt rs ≡ false → theirsOf (map pairOf rs) ≡ count (heldBy 1) rs
-  count-theirs [] e = unfold only in refl
-  count-theirs (r ∷ rs) e =
-      let f = sound-first r rs e in
-      count-cons (λ p. isOf 1 (keyIn true p)) (pairOf r) (map pairOf rs)
-      ∙ (λ i. oneIf (isOf 1 (key-back r (f .0) true i)) (count-theirs rs (f .1) i))
-      ∙ sym (count-cons (heldBy 1) r rs)
-
-  pub pairs-theirs : (set : ℕ) (rows : List Session) → length rows ≡ 64 → any unsoundAt (opens set rows) ≡ false
-      → theirsOf (reached set (pairsOf set rows)) ≡ count (heldBy 1) (opens set rows)
-  unfolding reachOf
-  pairs-theirs set rows n e =
-      count-filled (λ p. isOf 1 (keyIn true p)) refl (reached set (pairsOf set rows))
-      ∙ ap theirsOf (filled-open 64 set rows n e)
-      ∙ count-theirs (opens set rows) e
+  pub pairs-theirs : (set : ℕ) (rows : List Session) → any unsoundAt (opens set rows) ≡ false → theirsOf (pairsOf set rows) ≡ count (heldBy 1) (opens set rows)
+  unfolding pairsOf opens
+  pairs-theirs set [] e = unfold only in refl
+  pairs-theirs set (r ∷ rs) e =
+      let theirs : ℕ → Bool = λ p. isOf 1 (keyIn true p) in
+      split (firstOn set)
+      (λ o.
+      let f = sound-open set r rs o e in
+      rw o
+      (count-cons theirs (pairOf r) (pairsOf (set / 2) rs) ∙ (λ i. oneIf (isOf 1 (key-back r (f .0) true i)) (pairs-theirs (set / 2) rs (f .1) i))
+      ∙ sym (count-cons (heldBy 1) r (opens (set / 2) rs))))
+      (λ o. rw o (count-cons theirs 0 (pairsOf (set / 2) rs) ∙ pairs-theirs (set / 2) rs (sound-free set r rs o e)))

@@ -14,7 +14,7 @@ use Rattle.scan.specs.declared.Target.{Target}
 use Rattle.scan.specs.declared.Progress.{Progress}
 use Rattle.scan.specs.declared.Summary.{Summary}
 use Rattle.scan.specs.declared.Share.{Share}
-use Rattle.scan.specs.Distinct.{keyPair, distinctIn, reachOf, reached, theirsOf, placeIn, rivalIn}
+use Rattle.scan.specs.Distinct.{keyPair, distinctIn, reachOf, theirsOf, placeIn, rivalIn}
 
 -- before the first record: a row that is not of 64 is not in order, and none of its records is looked at
 unfoldable pub startOf : ℕ → Head → Target → Progress
@@ -92,7 +92,7 @@ sharedOf label all theirs =
 unfoldable pub shareIn : List ℕ → ℕ → ℕ → Share
 shareIn pairs occupied label =
     let all = occupiedOf 64 occupied in
-    cond (ltb all ownMost) (record { kept = true; full = false }) (sharedOf label all (theirsOf (reached occupied pairs)))
+    cond (ltb all ownMost) (record { kept = true; full = false }) (sharedOf label all (theirsOf pairs))
 
 unfoldable pub judgedOf : List ℕ → Progress → Summary
 judgedOf pairs s =
@@ -100,7 +100,7 @@ judgedOf pairs s =
     record {
       place = placeIn (s .label) (s .occupied) pairs;
       sound = eqb (s .fault) 0 && (apart pairs (s .occupied) && share .kept);
-      rival = rivalIn pairs (s .occupied) (placeIn (s .label) (s .occupied) pairs) (s .label) (s .discriminator);
+      rival = rivalIn pairs (placeIn (s .label) (s .occupied) pairs) (s .label) (s .discriminator);
       full = share .full;
     }
 

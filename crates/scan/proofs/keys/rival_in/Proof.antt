@@ -15,12 +15,10 @@ rival-in-spec =
     (λ c. let a = c .before .before .args in rw (lt-ltb (a .place) (length (a .pairs .now)) (c .if1 .taken)))
     (λ c. let a = c .before .before .before .args in rw (le-ltb (a .place) (length (a .pairs .now)) (c .before .if1 .left), eq-eqb (a .discriminator) 0 (c .if2 .taken)))
     (λ c κs. search needs)
-    (λ c κs. search needs)
     (λ c.
-    let a = c .before .before .before .before .before .args in
+    let a = c .before .before .before .before .args in
     rw (
-      c .has-key .ensures,
-      c .before .own-key .ensures,
-      le-ltb (a .place) (length (a .pairs .now)) (c .before .before .before .if1 .left),
-      ne-eqb (a .discriminator) 0 (c .before .before .if2 .left),
+      c .has-own .ensures,
+      le-ltb (a .place) (length (a .pairs .now)) (c .before .before .if1 .left),
+      ne-eqb (a .discriminator) 0 (c .before .if2 .left),
     )))
