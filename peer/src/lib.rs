@@ -10,6 +10,7 @@ pub mod capture;
 pub mod check;
 pub mod compare;
 pub mod cover;
+pub mod dhc;
 pub mod distinct;
 pub mod edges;
 pub mod list;

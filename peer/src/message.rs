@@ -18,6 +18,8 @@ const FAULT_HEAD: usize = 9;
 pub const CHANNEL_CC: u16 = 0x0022;
 pub const CHANNEL_CV: u16 = 0x0023;
 pub const CHANNEL_FAULT: u16 = 0x0058;
+/// Dual-homing coordination, which `read` does not know.
+pub const CHANNEL_DHC: u16 = 0x0009;
 
 /// A BFD session state, numbered as on the wire.
 #[derive(Clone, Copy, Debug, PartialEq, Eq)]
@@ -101,16 +103,21 @@ pub struct Read {
 
 /// Reads a message. Octets after its end are link padding.
 pub fn read(message: &[u8]) -> Result<Read, Refused> {
-    reach(message, CHANNEL_HEADER)?;
-    // First nibble and version share the first octet.
-    if message[0] != 0x10 {
-        return Err(Refusal::ChannelHeader.at(0));
-    }
-    match be16(message, 2) {
+    match channel(message)? {
         CHANNEL_CC => read_cc(message),
         CHANNEL_CV => read_cv(message),
         CHANNEL_FAULT => read_fault(message),
         _ => Err(Refusal::ChannelType.at(2)),
+    }
+}
+
+/// The channel type, behind the rest of the associated channel header.
+pub fn channel(message: &[u8]) -> Result<u16, Refused> {
+    reach(message, CHANNEL_HEADER)?;
+    // First nibble and version share the first octet.
+    match message[0] {
+        0x10 => Ok(be16(message, 2)),
+        _ => Err(Refusal::ChannelHeader.at(0)),
     }
 }
 

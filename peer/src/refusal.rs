@@ -29,8 +29,12 @@ pub enum Refusal {
     AlreadyOpen = 11,
     /// One's own 32 sessions are open.
     TableFull = 12,
+    /// The room to write into is too short.
+    Buffer = 13,
     /// A BFD message came for a locked session.
     Locked = 14,
+    /// A TLV of a DHC message is wrong or there twice, or neither is there.
+    Coordination = 25,
     /// The table itself breaks its rules.
     Table = 26,
 }

@@ -14,7 +14,7 @@ mod words;
 
 use crate::capture::{append_head, Kind, HEADER};
 use words::octets;
-pub use words::{grouped, number, Mistake, Words};
+pub use words::{grouped, number, octets as octets_of, Mistake, Words};
 
 /// The kinds of record by their names in a text, as they are numbered.
 const NAMES: [&str; 9] = [

@@ -24,6 +24,7 @@ const USAGE: &str = "usage: peer watch [--own-table] < capture
        peer spell LIST > list
        peer answer < list
        peer cells LIST...
+       peer dhc < list
        peer check N [--program PATH]
        peer check-why N [--program PATH]
        peer check-spacing N [--program PATH]
@@ -45,7 +46,7 @@ pub fn run(words: &[&str]) -> Done {
     match *command {
         "watch" | "why" | "spacing" | "compare" | "index" | "ask" => asking::run(command, rest),
         "make" | "log" | "assemble" | "morning" | "load" => making::run(command, rest),
-        "lists" | "asks" | "spell" | "answer" | "cells" => playing::run(command, rest),
+        "lists" | "asks" | "spell" | "answer" | "cells" | "dhc" => playing::run(command, rest),
         "check" | "check-why" | "check-spacing" | "check-compare" | "check-ask" | "cover" => {
             checking::run(command, rest)
         }

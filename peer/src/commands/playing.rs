@@ -1,7 +1,7 @@
-//! The commands on lists of calls.
+//! The commands on lists of calls, and of messages.
 
 use super::{input, print, print_octets, usage, Done};
-use peer::{list, log};
+use peer::{dhc, list, log};
 use std::io;
 use std::path::Path;
 use std::process::ExitCode;
@@ -13,6 +13,7 @@ pub fn run(command: &str, words: &[&str]) -> Done {
         ("spell", [path]) => print_octets(list::spell(&list_at(Path::new(path))?).as_bytes()),
         ("answer", []) => print(|output| list::answer(input(), output)),
         ("cells", [_, ..]) => cells(words),
+        ("dhc", []) => print(|output| dhc::answer(input(), output)),
         _ => usage(),
     }
 }
