@@ -2,7 +2,8 @@
  * What crosses between a host and the library, held to this header from outside: the version, every
  * field of a record and of a message at its place, why a session is as it is, where each reader says that
  * a message went wrong, each mark and each number that a writer must refuse, MEP-IDs of every form, rows
- * of another length lent to each call, calls in the name of each party, configurations, and the records of a log.
+ * of another length lent to each call, calls in the name of each party, configurations, the records of a log, and
+ * DHC messages.
  * hosts/run compares what is printed with hosts/timeline-boundary.
  */
 #include <inttypes.h>
@@ -729,6 +730,135 @@ static void settings_of_a_log(void) {
     }
 }
 
+/* DHC messages. The fields of the struct end before its last octet, which is nobody's. */
+#define DHC_FIELDS (offsetof(struct korvezul_dhc, switching) + offsetof(struct korvezul_dhc_switching, protection) + 1)
+static struct korvezul_dhc dhc = {.id = 0x01020304,
+                                  .status = {0x11121314, 0x15161718, 0x191a1b1c, 1, 0, 0, 0},
+                                  .switching = {0x21222324, 0x25262728, 0x292a2b2c, 1, 0, 0}};
+
+static uint32_t coordination(void) { return held(korvezul_write_dhc_message(buffer, sizeof buffer, dhc)); }
+
+/* What is read of octets; beside a refusal noughts. */
+static struct korvezul_dhc_read dhc_read(const uint8_t *o, size_t n) {
+    struct korvezul_dhc_read r = korvezul_read_dhc(o, n);
+    for (size_t i = 0; r.answer != KORVEZUL_ACCEPTED && i < DHC_FIELDS; i++)
+        need(((const uint8_t *)&r.dhc)[i] == 0, "a field of a DHC message beside a refusal");
+    return r;
+}
+
+/* Written into no more than it needs, and read back to every field; one octet less to write into is 13, and one
+ * less to read 3. */
+static void there_and_back(const char *name, size_t n) {
+    uint8_t m[KORVEZUL_DHC_OCTETS + 1];
+    struct korvezul_dhc_read r;
+    memset(m, 0xa5, sizeof m);
+    need(korvezul_write_dhc_message(m, n - 1, dhc) == KORVEZUL_BUFFER && m[0] == 0xa5, "DHC message too long");
+    print_octets(name, korvezul_write_dhc_message(m, n, dhc), m, n);
+    need(m[n] == 0xa5, "an octet behind a DHC message");
+    r = dhc_read(m, n);
+    need(r.answer == 0 && memcmp(&r.dhc, &dhc, DHC_FIELDS) == 0, "DHC message read");
+    need(dhc_read(m, n - 1).answer == KORVEZUL_SHORT, "DHC message cut");
+}
+
+/* Each bit alone, and either TLV alone. */
+static void dhc_written(void) {
+    const struct korvezul_dhc both = dhc;
+    const struct korvezul_dhc_status no_status = {0, 0, 0, 0, 0, 0, 0};
+    const struct korvezul_dhc_switching no_switching = {0, 0, 0, 0, 0, 0};
+    uint8_t *const bits[] = {&dhc.status.protection, &dhc.status.degrade, &dhc.status.fail, &dhc.switching.switches,
+                             &dhc.switching.protection};
+    static const char *const names[] = {"PW Status with P", "PW Status with D", "PW Status with F", "Switching with S",
+                                        "Switching with P"};
+    for (size_t i = 0; i < sizeof bits / sizeof *bits; i++) {
+        *bits[i] = 1;
+        there_and_back(names[i], KORVEZUL_DHC_OCTETS);
+        *bits[i] = 0;
+    }
+    dhc.switching = no_switching;
+    there_and_back("PW Status alone", KORVEZUL_DHC_STATUS_OCTETS);
+    dhc = both;
+    dhc.status = no_status;
+    there_and_back("Switching alone", KORVEZUL_DHC_SWITCHING_OCTETS);
+    dhc = both;
+}
+
+/* The answers with one octet after the other set to a value, and with none; then with the message cut behind
+ * each. */
+static void dhc_octets(void) {
+    static const uint8_t values[] = {0, 255};
+    uint8_t m[KORVEZUL_DHC_OCTETS], o[KORVEZUL_DHC_OCTETS + 3];
+    need(korvezul_write_dhc_message(m, sizeof m, dhc) == 0, "DHC message");
+    for (size_t k = 0; k < sizeof values; k++) {
+        printf("octets set to %d:", values[k]);
+        for (size_t i = 0; i <= sizeof m; i++)
+            printf(" %" PRIu32, dhc_read(padded(m, sizeof m, o, i, values[k]), sizeof o).answer);
+        printf("\n");
+    }
+    printf("cut behind 0, 1, 2, ..:");
+    for (size_t i = 0; i <= sizeof m; i++)
+        printf(" %" PRIu32, dhc_read(m, i).answer);
+    printf("\n");
+}
+
+/* The answers to a message of which one octet of the total, of a type or of a length is another by one or the
+ * two TLVs change places. */
+static void dhc_tlvs(void) {
+    static const size_t places[] = {9, 13, 15, 37, 39};
+    uint8_t m[KORVEZUL_DHC_OCTETS], o[KORVEZUL_DHC_OCTETS + 3];
+    struct korvezul_dhc_read r;
+    need(korvezul_write_dhc_message(m, sizeof m, dhc) == 0, "DHC message");
+    printf("total, type and length of each one less, and one more:");
+    for (size_t i = 0; i < sizeof places / sizeof *places; i++) {
+        size_t at = places[i];
+        printf(" %" PRIu32, dhc_read(padded(m, sizeof m, o, at, (uint8_t)(m[at] - 1)), sizeof o).answer);
+        printf("/%" PRIu32, dhc_read(padded(m, sizeof m, o, at, (uint8_t)(m[at] + 1)), sizeof o).answer);
+    }
+    memcpy(o, m, 12);
+    memcpy(o + 12, m + 36, 20);
+    memcpy(o + 32, m + 12, 24);
+    r = dhc_read(o, sizeof m);
+    need(r.answer == 0 && memcmp(&r.dhc, &dhc, DHC_FIELDS) == 0, "the TLVs in the other order");
+    o[8] = o[9] = 0;
+    printf("\nno TLV: %" PRIu32 "\n", dhc_read(o, sizeof m).answer);
+}
+
+/* A number or a bit behind a TLV that is absent, and behind one that is there. */
+static void dhc_behind(const char *name, uint32_t *number, uint8_t *present) {
+    *number = 1;
+    *present = 0;
+    printf("%s of 1, absent and present: %" PRIu32, name, coordination());
+    *present = 1;
+    printf(" %" PRIu32 "\n", coordination());
+    *number = 0;
+}
+
+static void dhc_numbers(void) {
+    struct korvezul_dhc_status *a = &dhc.status;
+    struct korvezul_dhc_switching *b = &dhc.switching;
+    a->destination = a->source = a->pw = b->destination = b->source = b->pw = 0;
+    dhc_behind("destination of PW Status", &a->destination, &a->present);
+    dhc_behind("source of PW Status", &a->source, &a->present);
+    dhc_behind("DNI-PW ID of PW Status", &a->pw, &a->present);
+    dhc_behind("destination of Switching", &b->destination, &b->present);
+    dhc_behind("source of Switching", &b->source, &b->present);
+    dhc_behind("DNI-PW ID of Switching", &b->pw, &b->present);
+    mark(coordination, "PW Status, P", &a->protection);
+    mark(coordination, "PW Status, D", &a->degrade);
+    mark(coordination, "PW Status, F", &a->fail);
+    mark(coordination, "Switching, S", &b->switches);
+    mark(coordination, "Switching, P", &b->protection);
+    mark(coordination, "PW Status there beside Switching", &a->present);
+    mark(coordination, "absent PW Status, P", &a->protection);
+    mark(coordination, "absent PW Status, D", &a->degrade);
+    mark(coordination, "absent PW Status, F", &a->fail);
+    mark(coordination, "Switching there without PW Status", &b->present);
+    a->present = 1;
+    mark(coordination, "absent Switching, S", &b->switches);
+    mark(coordination, "absent Switching, P", &b->protection);
+    a->present = 0;
+    need(korvezul_write_dhc_message(buffer, 0, dhc) == KORVEZUL_RANGE, "10 before 13");
+}
+
 static void headline(const char *text) { printf("-- %s\n", text); }
 
 int main(void) {
@@ -760,6 +890,11 @@ int main(void) {
     rooms_of_a_log();
     kinds_of_a_log();
     settings_of_a_log();
+    headline("DHC messages");
+    dhc_written();
+    dhc_octets();
+    dhc_tlvs();
+    dhc_numbers();
     headline("names");
     names();
     return 0;

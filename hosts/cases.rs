@@ -575,6 +575,55 @@ fn fault_by(w: &mut Words) -> Result<Fault, String> {
     Ok(f)
 }
 
+/// Group ID, PW Status as destination/source/DNI-PW ID/P/D/F, and Dual-Node Switching as
+/// destination/source/DNI-PW ID/S/P; - is one that is absent.
+fn dhc_fields(d: Dhc) -> String {
+    let (a, b) = (d.status, d.switching);
+    let status = match a.present {
+        0 if a == DhcStatus::default() => "-".to_string(),
+        1 => format!("{}/{}/{}/{}/{}/{}", a.destination, a.source, a.pw, a.protection, a.degrade, a.fail),
+        _ => format!("{a:?}"),
+    };
+    let switching = match b.present {
+        0 if b == DhcSwitching::default() => "-".to_string(),
+        1 => format!("{}/{}/{}/{}/{}", b.destination, b.source, b.pw, b.switches, b.protection),
+        _ => format!("{b:?}"),
+    };
+    format!("{} {status} {switching}", d.id)
+}
+
+/// The numbers of a TLV and its bits; none where it is absent.
+fn tlv_by<const N: usize>(w: &mut Words) -> Result<Option<([u32; 3], [u8; N])>, String> {
+    let word = w.word()?;
+    if word == "-" {
+        return Ok(None);
+    }
+    let parts: Vec<&str> = word.split('/').collect();
+    let (numbers, bits) = parts.split_at(parts.len().min(3));
+    let mut tlv = ([0; 3], [0; N]);
+    if (numbers.len(), bits.len()) != (3, N) {
+        return Err(format!("not {} numbers: {word}", 3 + N));
+    }
+    for (to, part) in tlv.0.iter_mut().zip(numbers) {
+        *to = number_of(part)?;
+    }
+    for (to, part) in tlv.1.iter_mut().zip(bits) {
+        *to = number_of(part)?;
+    }
+    Ok(Some(tlv))
+}
+
+fn dhc_by(w: &mut Words) -> Result<Dhc, String> {
+    let mut d = Dhc { id: w.number()?, ..Dhc::default() };
+    if let Some(([destination, source, pw], [protection, degrade, fail])) = tlv_by(w)? {
+        d.status = DhcStatus { destination, source, pw, present: 1, protection, degrade, fail };
+    }
+    if let Some(([destination, source, pw], [switches, protection])) = tlv_by(w)? {
+        d.switching = DhcSwitching { destination, source, pw, present: 1, switches, protection };
+    }
+    Ok(d)
+}
+
 /// What a reader shows: 0 and the fields, or a refusal and noughts, with a place in either case.
 fn read(answer: u32, place: u64, noughts: bool, fields: String) -> Shown {
     match (answer, noughts) {
@@ -627,6 +676,22 @@ fn read_fault_line(m: &[u8]) -> Shown {
     read(r.answer, r.place, r.fault == Fault::default(), fault_fields(r.fault))
 }
 
+/// A DHC message, which is answered without a place. On a label of a table it is another channel.
+fn read_dhc_line(m: &[u8]) -> Shown {
+    let r = read_dhc(m);
+    let mut t = empty_table()?;
+    let opened = t.open(opened_by_us(settings(LABEL, 17, 1_000_000)), 0);
+    let received = t.receive(ours(LABEL), m, 0);
+    if r.answer == 0 && (opened, received) != (0, 5) {
+        return Err(format!("received it is answered {received}"));
+    }
+    match r.answer {
+        0 => Ok(Some(answered(0, &dhc_fields(r.dhc)))),
+        n if r.dhc == Dhc::default() => Ok(Some(n.to_string())),
+        n => Err(format!("refused with {n}, and yet {}", dhc_fields(r.dhc))),
+    }
+}
+
 /// Discriminator and period of a configuration, by the type of BFD Authentication.
 fn read_configuration_line(authentication: u16, octets: &[u8]) -> Shown {
     let r = read_configuration(octets, authentication);
@@ -670,6 +735,7 @@ fn write_line(word: &str, w: &mut Words) -> Shown {
             write_cv_message(&mut buffer, p, mep_by(w)?)
         }
         "write-fault" => write_fault_message(&mut buffer, fault_by(w)?),
+        "write-dhc" => write_dhc_message(&mut buffer, dhc_by(w)?),
         "write-configuration" => write_configuration(&mut buffer, w.number()?, w.number()?),
         _ => return Err(format!("no such word: {word}")),
     };
@@ -684,6 +750,7 @@ fn message_line(word: &str, w: &mut Words) -> Shown {
         "cv" => read_cv_line(&w.octets()?),
         "mep" => read_mep_line(&w.octets()?),
         "fault" => read_fault_line(&w.octets()?),
+        "dhc" => read_dhc_line(&w.octets()?),
         "configuration" => read_configuration_line(w.number()?, &w.octets()?),
         _ => write_line(word, w),
     }
@@ -703,7 +770,7 @@ fn follow(last: &mut u64, number: u64) -> Result<(), String> {
 fn play(file: &str, t: &mut Table, last: &mut u64, words: &[&str]) -> Shown {
     let mut w = Words(words.iter());
     let word = w.word()?;
-    if file == "messages.txt" || file == "configuration.txt" {
+    if ["messages.txt", "configuration.txt", "dhc.txt"].contains(&file) {
         follow(last, number_of(word)?)?;
         return message_line(w.word()?, &mut w);
     }
@@ -742,7 +809,7 @@ fn holds(folder: &str, file: &str) -> Result<bool, String> {
 fn main() -> ExitCode {
     let folder = std::env::args().nth(1).unwrap_or("hosts/cases".to_string());
     let mut held = unsafe { korvezul_version() } == VERSION;
-    for file in ["messages.txt", "configuration.txt", "session.txt", "table.txt"] {
+    for file in ["messages.txt", "configuration.txt", "dhc.txt", "session.txt", "table.txt"] {
         held &= holds(&folder, file).unwrap_or_else(|e| {
             eprintln!("cases: {e}");
             false

@@ -1,10 +1,11 @@
 /*
- * The library under random input. Four commands:
+ * The library under random input. Five commands:
  *
  *   fuzz play < CAPTURE          plays a capture by calls, and prints what `watch` would
  *   fuzz log < LOG > LOG         plays a log by calls, and writes it again with the answers that they get
  *   fuzz calls SEED N LIST       makes N random calls on a table of its own, in every mode, writes
  *                                them as a list, and prints what they answered
+ *   fuzz dhc SEED N LIST         reads and writes N random DHC messages in the same way
  *   fuzz random SEED SECONDS     any bytes as row, set, clock, message and buffer; what must hold
  *                                of every call is looked at after each
  *
@@ -712,6 +713,183 @@ static void look_at_fields(void) {
     }
 }
 
+/* ---- DHC messages */
+
+/* The fields of the struct end before its last octet, which is nobody's. */
+#define DHC_FIELDS (offsetof(struct korvezul_dhc, switching) + offsetof(struct korvezul_dhc_switching, protection) + 1)
+
+static uint8_t some_bit(void) { return (uint8_t)(once_in(40) ? any() >> 32 : below(2)); }
+
+static struct korvezul_dhc some_dhc(void) {
+    struct korvezul_dhc d;
+    memset(&d, 0, sizeof d);
+    d.id = (uint32_t)any();
+    if (!once_in(3)) {
+        struct korvezul_dhc_status a = {(uint32_t)any(), (uint32_t)any(), (uint32_t)any(), 1, some_bit(), some_bit(),
+                                        some_bit()};
+        d.status = a;
+    }
+    if (!once_in(3)) {
+        struct korvezul_dhc_switching b = {(uint32_t)any(), (uint32_t)any(), (uint32_t)any(), 1, some_bit(),
+                                           some_bit()};
+        d.switching = b;
+    }
+    return d;
+}
+
+/* One TLV at most so many octets from the end; how many it has. Mostly of a length that its type has. */
+static size_t some_tlv(uint8_t *o, size_t most) {
+    uint64_t type = once_in(4) ? below(5) : 1 + below(2);
+    size_t n = type == 1 ? 20 : type == 2 ? 16 : below(9);
+    if (once_in(12))
+        n = below(24);
+    if (4 + n > most)
+        return 0;
+    put(put(o, 2, type), 2, once_in(20) ? below(24) : n);
+    fill(o + 4, n);
+    return 4 + n;
+}
+
+/* A DHC message in at most 128 octets: plain, or of any TLVs, then perhaps damaged, cut or padded. */
+static size_t some_dhc_message(uint8_t *o) {
+    size_t n = 12;
+    fill(o, 128);
+    if (once_in(20))
+        return below(129);
+    if (once_in(3) && korvezul_write_dhc_message(o, 128, some_dhc()) == 0) {
+        n += number(o + 8, 2);
+    } else {
+        for (uint64_t tlvs = below(5); tlvs > 0; tlvs--)
+            n += some_tlv(o + n, 128 - n);
+        put(put(o, 2, UINT64_C(0x1000)), 2, 9);
+        put(o + 8, 2, n - 12 + (once_in(10) ? below(5) : 0));
+    }
+    if (once_in(4))
+        o[once_in(2) ? below(n) : below(16)] = (uint8_t)(once_in(2) ? below(24) : any() >> 32);
+    if (once_in(15))
+        n = below(n + 1);
+    if (once_in(6) && n < 88)
+        n += below(40);
+    return n;
+}
+
+/* What is read of any octets: noughts beside a refusal, else what can be written, and reads back. */
+static uint32_t look_at_dhc(const struct lender *lent) {
+    uint8_t m[128], again[KORVEZUL_DHC_OCTETS + 1];
+    size_t n = some_dhc_message(m), size;
+    uint8_t *o = lend(lent, n, once_in(2));
+    struct korvezul_dhc_read r, back;
+    memcpy(o, m, n);
+    at_fault = NULL;
+    r = korvezul_read_dhc(o, n);
+    must(memcmp(o, m, n) == 0, "a message that was lent to be read changes");
+    if (r.answer != KORVEZUL_ACCEPTED) {
+        must(is_nought(&r.dhc, DHC_FIELDS), "fields beside a refusal");
+        return r.answer;
+    }
+    size = r.dhc.status.present == 0      ? KORVEZUL_DHC_SWITCHING_OCTETS
+           : r.dhc.switching.present == 0 ? KORVEZUL_DHC_STATUS_OCTETS
+                                          : KORVEZUL_DHC_OCTETS;
+    memset(again, 0xee, sizeof again);
+    must(korvezul_write_dhc_message(again, size - 1, r.dhc) == KORVEZUL_BUFFER && again[0] == 0xee,
+         "a DHC message is written where there is no room");
+    must(korvezul_write_dhc_message(again, size, r.dhc) == 0 && again[size] == 0xee,
+         "a DHC message that was read is not written");
+    back = korvezul_read_dhc(again, size);
+    must(back.answer == 0 && memcmp(&back.dhc, &r.dhc, DHC_FIELDS) == 0, "a DHC message reads back to something else");
+    return 0;
+}
+
+/* Fields that are written become octets that read back to the same fields, which are written again octet for octet;
+ * others leave the buffer alone. */
+static uint32_t look_at_dhc_fields(const struct lender *lent) {
+    struct korvezul_dhc d = some_dhc();
+    uint8_t before[80], again[KORVEZUL_DHC_OCTETS], *o;
+    size_t n = below(sizeof before), size;
+    uint32_t answer;
+    if (once_in(30))
+        d.status.present = some_bit();
+    if (once_in(30))
+        d.switching.present = some_bit();
+    size = 12u + 24u * (d.status.present != 0) + 20u * (d.switching.present != 0);
+    o = lend(lent, n, once_in(2));
+    fill(o, n);
+    memcpy(before, o, n);
+    at_fault = NULL;
+    answer = korvezul_write_dhc_message(o, n, d);
+    if (answer == KORVEZUL_ACCEPTED) {
+        struct korvezul_dhc_read r = korvezul_read_dhc(o, n);
+        must(r.answer == 0 && memcmp(&r.dhc, &d, DHC_FIELDS) == 0, "fields of a DHC message are lost");
+        must(korvezul_write_dhc_message(again, size, r.dhc) == 0 && memcmp(again, o, size) == 0,
+             "a plain DHC message is written again with other octets");
+        memcpy(before, o, size);
+    }
+    must(memcmp(o, before, n) == 0, "octets beside a refusal or behind a DHC message change");
+    return answer;
+}
+
+static void print_tlv(FILE *to, uint8_t present, const uint32_t *numbers, const uint8_t *bits, int count) {
+    if (present == 0) {
+        fprintf(to, " -");
+        return;
+    }
+    fprintf(to, " %" PRIu32 "/%" PRIu32 "/%" PRIu32, numbers[0], numbers[1], numbers[2]);
+    for (int i = 0; i < count; i++)
+        fprintf(to, "/%d", bits[i]);
+}
+
+static void print_dhc(FILE *to, const struct korvezul_dhc *d) {
+    const struct korvezul_dhc_status *a = &d->status;
+    const struct korvezul_dhc_switching *b = &d->switching;
+    const uint32_t status[] = {a->destination, a->source, a->pw}, switching[] = {b->destination, b->source, b->pw};
+    const uint8_t status_bits[] = {a->protection, a->degrade, a->fail}, bits[] = {b->switches, b->protection};
+    fprintf(to, " %" PRIu32, d->id);
+    print_tlv(to, a->present, status, status_bits, 3);
+    print_tlv(to, b->present, switching, bits, 2);
+}
+
+static void print_hex(FILE *to, const uint8_t *o, size_t n) {
+    fprintf(to, n == 0 ? " -" : " ");
+    for (size_t i = 0; i < n; i++)
+        fprintf(to, "%02x", o[i]);
+}
+
+/* Random messages and fields as a list, and what they are answered. */
+static int dhc_messages(uint64_t count, const char *path) {
+    struct lender lent = a_lender();
+    FILE *to = fopen(path, "w");
+    uint8_t m[128];
+    if (to == NULL)
+        return 1;
+    for (; count > 0; count--) {
+        if (once_in(3)) {
+            struct korvezul_dhc d = some_dhc();
+            size_t room = 28 + below(40);
+            uint8_t *o = lend(&lent, room, 1);
+            uint32_t answer = korvezul_write_dhc_message(o, room, d);
+            fprintf(to, "write %zu", room);
+            print_dhc(to, &d);
+            printf("%" PRIu32, answer);
+            if (answer == KORVEZUL_ACCEPTED)
+                print_hex(stdout, o, 12 + (size_t)number(o + 8, 2));
+        } else {
+            size_t n = some_dhc_message(m);
+            uint8_t *o = lend(&lent, n, 1);
+            struct korvezul_dhc_read r;
+            memcpy(o, m, n);
+            fprintf(to, "read");
+            print_hex(to, m, n);
+            r = korvezul_read_dhc(o, n);
+            printf("%" PRIu32, r.answer);
+            if (r.answer == KORVEZUL_ACCEPTED)
+                print_dhc(stdout, &r.dhc);
+        }
+        fprintf(to, "\n");
+        printf("\n");
+    }
+    return fclose(to) != 0;
+}
+
 /* ---- configurations: nested entries, some of them damaged, read again by positions in the octets */
 
 /* One entry with all that is in it, at most so many octets; how many it has. */
@@ -1010,6 +1188,7 @@ static int at_random(double seconds) {
     struct lender rows = a_lender(), heads = a_lender(), lent = a_lender(), records = a_lender();
     static struct table base;
     static uint64_t counts[KINDS][27], messages, configurations[27], headers[27], opens[27], others[27];
+    static uint64_t read[27], written[27];
     clock_t start = clock();
     for (; (double)(clock() - start) / CLOCKS_PER_SEC < seconds; messages++) {
         size_t n = once_in(25) ? below(KORVEZUL_RECORDS + 3) : KORVEZUL_RECORDS, size = n * sizeof *base.row;
@@ -1030,12 +1209,16 @@ static int at_random(double seconds) {
         look_at_message(&lent);
         look_at_fields();
         configurations[look_at_configuration(&lent)]++;
+        read[look_at_dhc(&lent)]++;
+        written[look_at_dhc_fields(&lent)]++;
         headers[look_at_log_header(&records)]++;
         opens[look_at_logged_open(&records)]++;
         others[look_at_logged_call(&records, &lent)]++;
     }
     for (int k = 0; k < KINDS; k++)
         print_count(names[k], counts[k]);
+    print_count("DHC messages read", read);
+    print_count("DHC messages written", written);
     print_count("configurations", configurations);
     print_count("headers of a log", headers);
     print_count("opens of a log", opens);
@@ -1053,8 +1236,10 @@ int main(int argc, char **argv) {
         return write_log_again();
     if (argc == 5 && strcmp(argv[1], "calls") == 0)
         return calls(strtoull(argv[3], NULL, 10), argv[4]);
+    if (argc == 5 && strcmp(argv[1], "dhc") == 0)
+        return dhc_messages(strtoull(argv[3], NULL, 10), argv[4]);
     if (argc == 4 && strcmp(argv[1], "random") == 0)
         return at_random(strtod(argv[3], NULL));
-    fprintf(stderr, "fuzz play | fuzz log | fuzz calls SEED N LIST | fuzz random SEED SECONDS\n");
+    fprintf(stderr, "fuzz play | fuzz log | fuzz calls SEED N LIST | fuzz dhc SEED N LIST | fuzz random SEED SECONDS\n");
     return 2;
 }

@@ -17,6 +17,8 @@ pub const SOURCE: u8 = 1;
 pub const SINK: u8 = 2;
 /// The longest plain CV.
 pub const CV_OCTETS: usize = 78;
+/// The longest plain DHC message.
+pub const DHC_OCTETS: usize = 56;
 /// The octets before the first record of a log, those of an open, and those of any other call without its message.
 pub const LOG_HEADER_OCTETS: usize = 8;
 pub const LOG_OPEN_OCTETS: usize = 53;
@@ -212,6 +214,39 @@ pub struct Fault {
     pub has_global_id: u8,
 }
 
+/// PW Status, of a DHC message; `present` is 0 or 1, and behind a 0 all is 0.
+#[repr(C)]
+#[derive(Clone, Copy, Debug, Default, PartialEq)]
+pub struct DhcStatus {
+    pub destination: u32,
+    pub source: u32,
+    pub pw: u32,
+    pub present: u8,
+    pub protection: u8,
+    pub degrade: u8,
+    pub fail: u8,
+}
+
+/// Dual-Node Switching in the same way.
+#[repr(C)]
+#[derive(Clone, Copy, Debug, Default, PartialEq)]
+pub struct DhcSwitching {
+    pub destination: u32,
+    pub source: u32,
+    pub pw: u32,
+    pub present: u8,
+    pub switches: u8,
+    pub protection: u8,
+}
+
+#[repr(C)]
+#[derive(Clone, Copy, Debug, Default, PartialEq)]
+pub struct Dhc {
+    pub id: u32,
+    pub status: DhcStatus,
+    pub switching: DhcSwitching,
+}
+
 #[repr(C)]
 pub struct CcRead {
     pub place: u64,
@@ -240,6 +275,12 @@ pub struct FaultRead {
     pub place: u64,
     pub answer: u32,
     pub fault: Fault,
+}
+
+#[repr(C)]
+pub struct DhcRead {
+    pub answer: u32,
+    pub dhc: Dhc,
 }
 
 /// What a configuration offers: 0 and the two numbers, or a refusal and noughts.
@@ -274,6 +315,10 @@ const _: () = {
     assert!(offset_of!(CcRead, answer) == 8 && offset_of!(CcRead, packet) == 12 && offset_of!(FaultRead, fault) == 12);
     assert!(offset_of!(CvRead, part) == 12 && offset_of!(CvRead, packet) == 20 && offset_of!(CvRead, mep) == 48);
     assert!(size_of::<MepIdRead>() == 56 && offset_of!(MepIdRead, mep) == 8);
+    assert!(size_of::<DhcStatus>() == 16 && offset_of!(DhcStatus, present) == 12 && offset_of!(DhcStatus, fail) == 15);
+    assert!(size_of::<DhcSwitching>() == 16 && offset_of!(DhcSwitching, protection) == 14 && size_of::<Dhc>() == 36);
+    assert!(offset_of!(Dhc, status) == 4 && offset_of!(Dhc, switching) == 20 && align_of::<Dhc>() == 4);
+    assert!(size_of::<DhcRead>() == 40 && offset_of!(DhcRead, dhc) == 4);
     assert!(size_of::<ConfigurationRead>() == 12 && offset_of!(ConfigurationRead, period) == 8);
     assert!(size_of::<Logged>() == 16 && align_of::<Logged>() == 8 && offset_of!(Logged, label) == 8);
     assert!(offset_of!(Logged, kind) == 12 && offset_of!(Logged, answer) == 14);
@@ -321,10 +366,12 @@ extern "C" {
     pub fn korvezul_read_cc(message: *const u8, octets: usize) -> CcRead;
     pub fn korvezul_read_cv(message: *const u8, octets: usize) -> CvRead;
     pub fn korvezul_read_fault(message: *const u8, octets: usize) -> FaultRead;
+    pub fn korvezul_read_dhc(message: *const u8, octets: usize) -> DhcRead;
     pub fn korvezul_read_mep_id(octets: *const u8, size: usize) -> MepIdRead;
     pub fn korvezul_write_cc_message(buffer: *mut u8, size: usize, packet: Packet) -> u32;
     pub fn korvezul_write_cv_message(buffer: *mut u8, size: usize, packet: Packet, mep: MepId) -> u32;
     pub fn korvezul_write_fault_message(buffer: *mut u8, size: usize, fault: Fault) -> u32;
+    pub fn korvezul_write_dhc_message(buffer: *mut u8, size: usize, dhc: Dhc) -> u32;
     pub fn korvezul_read_configuration(octets: *const u8, size: usize, authentication: u16) -> ConfigurationRead;
     pub fn korvezul_write_configuration(buffer: *mut u8, size: usize, discriminator: u32, period: u32) -> u32;
     pub fn korvezul_log_header(buffer: *mut u8, size: usize) -> u32;
@@ -419,6 +466,11 @@ pub fn read_fault(message: &[u8]) -> FaultRead {
     unsafe { korvezul_read_fault(message.as_ptr(), message.len()) }
 }
 
+/// A message of dual-homing coordination, which no table knows.
+pub fn read_dhc(message: &[u8]) -> DhcRead {
+    unsafe { korvezul_read_dhc(message.as_ptr(), message.len()) }
+}
+
 /// A MEP-ID from its own octets, type to end.
 pub fn read_mep_id(octets: &[u8]) -> MepIdRead {
     unsafe { korvezul_read_mep_id(octets.as_ptr(), octets.len()) }
@@ -434,6 +486,10 @@ pub fn write_cv_message(buffer: &mut [u8], packet: Packet, mep: MepId) -> u32 {
 
 pub fn write_fault_message(buffer: &mut [u8], fault: Fault) -> u32 {
     unsafe { korvezul_write_fault_message(buffer.as_mut_ptr(), buffer.len(), fault) }
+}
+
+pub fn write_dhc_message(buffer: &mut [u8], dhc: Dhc) -> u32 {
+    unsafe { korvezul_write_dhc_message(buffer.as_mut_ptr(), buffer.len(), dhc) }
 }
 
 /// Discriminator and period from nested TLVs; `authentication` is the type of BFD Authentication.
@@ -482,6 +538,7 @@ pub fn answer_name(answer: u32) -> &'static str {
         16 => "entry past its holder's end",
         17 => "entry of a wrong length",
         18 => "needed entry missing or twice",
+        25 => "DHC message wrong",
         26 => "not a table",
         _ => "unknown",
     }

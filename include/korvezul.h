@@ -1,5 +1,6 @@
 /*
- * Korvezul: MPLS-TP connectivity monitoring (BFD CC and CV, AIS, LKR) for a line card.
+ * Korvezul: MPLS-TP connectivity monitoring (BFD CC and CV, AIS, LKR) for a line card, and the message of
+ * dual-homing coordination (DHC), read and written.
  *
  * C99; also C++. Link libkorvezul.a, which needs memcpy and memset and nothing else.
  *
@@ -39,7 +40,8 @@ extern "C" {
 /* The version of this header: 0x060000 is 6.0.0. korvezul_version() is the archive's; another major
  * number is another layout or another meaning, and the two must agree in it. 5: the settings have a mode,
  * in an octet that was nobody's before; 5.1: configurations are read and written; 5.2: records of a log
- * are written; 6: every call but a tick names its party, and a party has 32 sessions. */
+ * are written; 6: every call but a tick names its party, and a party has 32 sessions; DHC messages are read
+ * and written. */
 #define KORVEZUL_VERSION_MAJOR 6
 #define KORVEZUL_VERSION_MINOR 0
 #define KORVEZUL_VERSION_PATCH 0
@@ -55,6 +57,10 @@ extern "C" {
 /* The longest plain CV, and the longest plain fault message. */
 #define KORVEZUL_CV_OCTETS 78
 #define KORVEZUL_FAULT_OCTETS 25
+/* A plain DHC message with Dual-Node Switching alone, with PW Status alone, and with both. */
+#define KORVEZUL_DHC_SWITCHING_OCTETS 32
+#define KORVEZUL_DHC_STATUS_OCTETS 36
+#define KORVEZUL_DHC_OCTETS 56
 /* The octets before the first record of a log, those of an open, those of any other call without its
  * message, and the longest message that a record holds. */
 #define KORVEZUL_LOG_HEADER_OCTETS 8
@@ -83,6 +89,7 @@ enum korvezul_answer {
     KORVEZUL_PAST = 16,       /* an entry of a configuration, padding included, past its holder's end */
     KORVEZUL_LENGTH = 17,     /* a known entry whose length its layout does not allow */
     KORVEZUL_NEEDED = 18,     /* a needed entry missing or twice */
+    KORVEZUL_DHC = 25,        /* a TLV of a DHC message past the total, of a wrong length or twice, or neither */
     KORVEZUL_TABLE = 26       /* not 64 records, or open records that no call can have left: one out of range, two
                                  of one label, two of one party and discriminator, over 32 of a party */
 };
@@ -307,6 +314,36 @@ struct korvezul_fault {
     uint8_t has_global_id;
 };
 
+/* The fields of a DHC message (dual-homing coordination, channel 0x0009): the Dual-Homing Group ID, and of
+ * PW Status and Dual-Node Switching 1 or 0 in `present` for one that is there or not, at least one of them.
+ * Each has the Node_IDs of the PEs that it is for and from, and the DNI-PW ID. The bits are 0 or 1: P
+ * (`protection`; 0 is the working PE), D (`degrade`) and F (`fail`) of the service PW, and S (`switches`, to
+ * the protection PW). Numbers and bits behind a 0 are 0 when read and must be 0 when written (10). */
+struct korvezul_dhc_status {
+    uint32_t destination;
+    uint32_t source;
+    uint32_t pw;
+    uint8_t present;
+    uint8_t protection;
+    uint8_t degrade;
+    uint8_t fail;
+};
+
+struct korvezul_dhc_switching {
+    uint32_t destination;
+    uint32_t source;
+    uint32_t pw;
+    uint8_t present;
+    uint8_t switches;
+    uint8_t protection;
+};
+
+struct korvezul_dhc {
+    uint32_t id;
+    struct korvezul_dhc_status status;
+    struct korvezul_dhc_switching switching;
+};
+
 /* What a reader answers: 0 and the fields, or a refusal and noughts; and beside either a place, an
  * offset from the first octet of the message. Octets behind a message are padding and are ignored.
  * By the answer, `place` is
@@ -348,6 +385,12 @@ struct korvezul_fault_read {
     uint64_t place;
     uint32_t answer;
     struct korvezul_fault fault;
+};
+
+/* A DHC message: 0 and its fields, or a refusal and noughts. */
+struct korvezul_dhc_read {
+    uint32_t answer;
+    struct korvezul_dhc dhc;
 };
 
 /* What a configuration offers: 0 and the two numbers, or a refusal and noughts. */
@@ -434,22 +477,27 @@ uint32_t korvezul_write_cv(struct korvezul_session *row, size_t records, struct 
                            struct korvezul_circuit circuit, uint8_t *buffer, size_t size);
 
 /* Messages alone, without a table. Refusals: a CC 3, 4, 5, 3, 6, 3; a CV 3, 4, 5, 3, 6, 3, 7, 3, 7; a
- * fault message 3, 4, 5, 3, 8, 3, 8. */
+ * fault message 3, 4, 5, 3, 8, 3, 8; a DHC message 3, 4, 5, 3, 25. */
 
 struct korvezul_cc_read korvezul_read_cc(const uint8_t *message, size_t octets);
 struct korvezul_cv_read korvezul_read_cv(const uint8_t *message, size_t octets);
 struct korvezul_fault_read korvezul_read_fault(const uint8_t *message, size_t octets);
 
+/* The two TLVs may come in either order, with others among them; bits that have no field, reserved octets and
+ * those behind the total are not looked at. No table knows DHC messages: korvezul_receive answers them 5. */
+struct korvezul_dhc_read korvezul_read_dhc(const uint8_t *message, size_t octets);
+
 /* A MEP-ID from its own octets, type to end, as it stands in a CV: to be opened with, or to be written.
  * Octets behind it are ignored. 3, 7, 3, 7. */
 struct korvezul_mep_id_read korvezul_read_mep_id(const uint8_t *octets, size_t size);
 
-/* Plain messages from their fields: 28 octets; 44, of a pseudowire 46 to 78; and 9, 15, 19 or 25. 10,
- * 13. */
+/* Plain messages from their fields: 28 octets; 44, of a pseudowire 46 to 78; 9, 15, 19 or 25; and of a DHC
+ * message 32, 36 or 56, PW Status first. 10, 13. */
 uint32_t korvezul_write_cc_message(uint8_t *buffer, size_t size, struct korvezul_packet packet);
 uint32_t korvezul_write_cv_message(uint8_t *buffer, size_t size, struct korvezul_packet packet,
                                    struct korvezul_mep_id mep);
 uint32_t korvezul_write_fault_message(uint8_t *buffer, size_t size, struct korvezul_fault fault);
+uint32_t korvezul_write_dhc_message(uint8_t *buffer, size_t size, struct korvezul_dhc dhc);
 
 /* The settings of a session from LSP Ping records: a list of nested TLVs, OAM Functions, in it BFD
  * Configuration, in that Local Discriminator and Negotiation Timer Parameters, whose transmit interval
@@ -618,6 +666,31 @@ KORVEZUL_PLACE(fault, refresh, 15);
 KORVEZUL_PLACE(fault, has_if_id, 16);
 KORVEZUL_PLACE(fault, has_global_id, 17);
 
+KORVEZUL_SIZE(dhc_status, 16);
+KORVEZUL_ALIGNED(dhc_status, 4);
+KORVEZUL_PLACE(dhc_status, destination, 0);
+KORVEZUL_PLACE(dhc_status, source, 4);
+KORVEZUL_PLACE(dhc_status, pw, 8);
+KORVEZUL_PLACE(dhc_status, present, 12);
+KORVEZUL_PLACE(dhc_status, protection, 13);
+KORVEZUL_PLACE(dhc_status, degrade, 14);
+KORVEZUL_PLACE(dhc_status, fail, 15);
+
+KORVEZUL_SIZE(dhc_switching, 16);
+KORVEZUL_ALIGNED(dhc_switching, 4);
+KORVEZUL_PLACE(dhc_switching, destination, 0);
+KORVEZUL_PLACE(dhc_switching, source, 4);
+KORVEZUL_PLACE(dhc_switching, pw, 8);
+KORVEZUL_PLACE(dhc_switching, present, 12);
+KORVEZUL_PLACE(dhc_switching, switches, 13);
+KORVEZUL_PLACE(dhc_switching, protection, 14);
+
+KORVEZUL_SIZE(dhc, 36);
+KORVEZUL_ALIGNED(dhc, 4);
+KORVEZUL_PLACE(dhc, id, 0);
+KORVEZUL_PLACE(dhc, status, 4);
+KORVEZUL_PLACE(dhc, switching, 20);
+
 KORVEZUL_SIZE(cc_read, 40);
 KORVEZUL_ALIGNED(cc_read, 8);
 KORVEZUL_PLACE(cc_read, place, 0);
@@ -643,6 +716,11 @@ KORVEZUL_ALIGNED(fault_read, 8);
 KORVEZUL_PLACE(fault_read, place, 0);
 KORVEZUL_PLACE(fault_read, answer, 8);
 KORVEZUL_PLACE(fault_read, fault, 12);
+
+KORVEZUL_SIZE(dhc_read, 40);
+KORVEZUL_ALIGNED(dhc_read, 4);
+KORVEZUL_PLACE(dhc_read, answer, 0);
+KORVEZUL_PLACE(dhc_read, dhc, 4);
 
 KORVEZUL_SIZE(configuration_read, 12);
 KORVEZUL_ALIGNED(configuration_read, 4);

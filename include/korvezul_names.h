@@ -28,6 +28,7 @@ static inline const char *korvezul_answer_name(uint32_t answer) {
     case KORVEZUL_PAST: return "entry past its holder's end";
     case KORVEZUL_LENGTH: return "entry of a wrong length";
     case KORVEZUL_NEEDED: return "needed entry missing or twice";
+    case KORVEZUL_DHC: return "DHC message wrong";
     case KORVEZUL_TABLE: return "not a table";
     default: return "unknown";
     }
