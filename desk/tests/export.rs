@@ -112,6 +112,21 @@ fn stored_captures_come_back() {
 }
 
 /// One message of each length up to the longest, on the lowest and the highest label and the GAL's.
+/// No table knows them, and a tap may have them.
+#[test]
+fn dhc_messages_come_back() {
+    let text = "0 100 open my=17
+1 100 receive dhc group=7 status=1/55/2/PD switching=1/56/2/S
+2 100 receive dhc group=7 cut=9
+";
+    let capture = peer::assemble::assemble(text).expect("a capture");
+    assert_eq!(comes_back("dhc", &capture), 2);
+    let (pcapng, _) = export(&capture, Frames::default());
+    let refused = "refused 5 at 2: none of the three channel types";
+    let expected = [2, 3].map(|record| format!("record {record}: {refused}"));
+    assert_eq!(comments(&pcapng), expected);
+}
+
 #[test]
 fn every_length_comes_back() {
     let mut capture = HEADER.to_vec();

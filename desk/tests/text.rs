@@ -85,8 +85,8 @@ fn random_message(random: &mut Random) -> Vec<u8> {
     let more = random.below(3) as usize;
     let mut body = random.octets(length + more);
     body.truncate(2_048);
-    let channel = random.pick(&[0x22, 0x23, 0x23, 0x58, 0x58, 0x21]);
-    let total = random.pick(&[0, 6, 10, 16, 24, 30, 40, 255]);
+    let channel = random.pick(&[0x22, 0x23, 0x23, 0x58, 0x58, 0x09, 0x09, 0x21]);
+    let total = random.pick(&[0, 6, 10, 16, 20, 24, 30, 40, 44, 255]);
     let likely = [
         0x10,
         0,
@@ -107,6 +107,10 @@ fn random_message(random: &mut Random) -> Vec<u8> {
         (19, &[2, 4]),
         (28, &[0, 2, 0, 17]),
         (45, &[3]),
+        (8, &[0, total]),
+        (12, &[0, 1, 0, 20]),
+        (28, &[0, 0, 0, 1, 0, 0, 0, 2, 0, 2, 0, 16]),
+        (52, &[0, 0, 0, 3]),
     ] {
         if random.chance(40) && body.len() >= at + octets.len() {
             body[at..at + octets.len()].copy_from_slice(octets);
@@ -148,7 +152,19 @@ fn random_bodies_come_back() {
     }
     let text = text("random_bodies", &capture);
     for word in [
-        "cut=", "agi=", "behind=", "tlv=", "total=", "if=", "global=", "zeros=", "pad=", "hex ",
+        "cut=",
+        "agi=",
+        "behind=",
+        "tlv=",
+        "total=",
+        "if=",
+        "global=",
+        "zeros=",
+        "pad=",
+        "hex ",
+        "dhc ",
+        "status=",
+        "switching=",
     ] {
         assert!(text.contains(word), "none has {word}");
     }
@@ -192,6 +208,13 @@ const CHOSEN: &str = "
 1 100 receive lkr refresh=1
 1 100 receive ais refresh=0 flags=4 global=7 tlv=0108 type=3 version=2 low-nibble=5 total=200
 1 100 receive ais refresh=1 cut=6
+1 100 receive dhc group=7 status=1/55/2/PDF switching=1/56/2/SP
+1 100 receive dhc group=4294967295 status=1/55/2/D
+1 100 receive dhc group=0 switching=0/4294967295/2 pad=01 zeros=3
+1 100 receive dhc group=7 status=1/55/2 status=1/55/2/P tlv=0003000101 nibble=2 gach-version=3 reserved=9 tlv-reserved=258 total=60
+1 100 receive dhc group=7 tlv=0002001000000001000000380000000200000004
+1 100 receive dhc group=7 switching=1/56/2/S tlv=0001001400000001000000370000000200000000
+1 100 receive dhc group=7 cut=9
 1 100 receive
 1 100 receive hex 100000
 1 100 receive hex 10000021 0102

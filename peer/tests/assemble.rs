@@ -5,6 +5,7 @@ mod common;
 use common::*;
 use peer::assemble::{answers, assemble};
 use peer::capture::{open_body, Kind, HEADER};
+use peer::dhc;
 
 /// The octets of a text's only record behind its sixteen.
 fn body(line: &str) -> Vec<u8> {
@@ -62,6 +63,34 @@ fn a_cv_in_words() {
     assert_eq!(body(line), cv(DOWN, 17, EXPECTED));
     let wrong = body("0 100 receive cv down my=5 mep-type=2 mep-length=11");
     assert_eq!(wrong[28..32], [0, 2, 0, 11]);
+}
+
+#[test]
+fn a_dhc_message_in_words() {
+    let line = "0 100 receive dhc group=7 status=1/55/2/PD switching=1/56/2/S pad=aa";
+    let mut octets = body(line);
+    assert_eq!(octets.pop(), Some(0xaa));
+    let read = dhc::read(&octets).unwrap();
+    assert_eq!(dhc::written(&read), Some(octets));
+    let (status, switching) = (read.status.unwrap(), read.switching.unwrap());
+    assert_eq!((read.group, status.ends.source), (7, 55));
+    assert!(status.protection && status.degrade && !status.fail);
+    assert!(switching.switch && !switching.protection && switching.ends.source == 56);
+    let all = body("0 100 receive dhc status=1/2/3/PDF switching=4/5/6/SP");
+    assert_eq!((all[31], all[35], all[55]), (1, 3, 3));
+    let odd = body("0 100 receive dhc reserved=9 total=5 tlv-reserved=0x0102 tlv=0003");
+    assert_eq!(odd, [0x10, 9, 0, 9, 0, 0, 0, 0, 0, 5, 1, 2, 0, 3]);
+    for wrong in [
+        "status=1/2",
+        "status=1/2/3/",
+        "status=1/2/3/FP",
+        "status=1/2/3/S",
+        "status=1/2/3/P/D",
+        "switching=1/2/3/D",
+        "switching=1/2/4294967296",
+    ] {
+        assert!(assemble(&format!("0 100 receive dhc {wrong}")).is_err());
+    }
 }
 
 #[test]

@@ -3,7 +3,7 @@
 
 use super::digits::{append_grouped, append_hex, append_number};
 use peer::mep_id::{LSP, PSEUDOWIRE};
-use peer::message::{CHANNEL_CC, CHANNEL_CV, CHANNEL_FAULT};
+use peer::message::{CHANNEL_CC, CHANNEL_CV, CHANNEL_DHC, CHANNEL_FAULT};
 use peer::octets::be16;
 use std::borrow::Cow;
 
@@ -19,6 +19,8 @@ const USUAL_BFD: [u8; 28] = [
 const USUAL_MEP_ID: [u8; 18] = [0, 1, 0, 12, 0, 0, 0, 1, 0, 0, 0, 20, 0, 1, 0, 1, 0, 0];
 /// A fault message up to its TLVs.
 const USUAL_FAULT: [u8; 9] = [0x10, 0, 0, 0x58, 0x10, 1, 0, 1, 0];
+/// A dual-homing coordination message up to its TLVs.
+const USUAL_DHC: [u8; 12] = [0x10, 0, 0, 9, 0, 0, 0, 0, 0, 0, 0, 0];
 /// A message that ends before the octet of its state or type is not called by a name.
 const SHORTEST_NAMED: usize = 6;
 /// Zeros at the end of octets are counted when they are more than a few.
@@ -40,6 +42,7 @@ pub fn append_message(out: &mut Vec<u8>, message: &[u8]) {
         CHANNEL_CC => cc(out, message),
         CHANNEL_CV => cv(out, message),
         CHANNEL_FAULT => fault(out, message),
+        CHANNEL_DHC => dhc(out, message),
         _ if message.is_empty() => {}
         _ => append_octets(out, message),
     }
@@ -273,4 +276,62 @@ fn append_tlvs(out: &mut Vec<u8>, mut tlvs: &[u8]) {
         tlvs = tlvs.get(6..).unwrap_or_default();
     }
     append_named_octets(out, " tlv=", tlvs);
+}
+
+fn dhc(out: &mut Vec<u8>, message: &[u8]) {
+    let whole = filled(message, &USUAL_DHC);
+    let (head, behind) = split::<12>(&whole);
+    let total = be16(&head, 8);
+    word(out, " dhc group=");
+    append_number(out, peer::octets::be32(&head, 4).into());
+    let (tlvs, behind) = behind.split_at(usize::from(total).min(behind.len()));
+    append_coordination(out, tlvs);
+    channel_header(out, head[0], head[1]);
+    append_unless(out, " tlv-reserved=", be16(&head, 10).into(), 0);
+    append_unless(out, " total=", total.into(), tlvs.len() as u64);
+    append_end(out, message, &whole, behind);
+}
+
+/// PW Status and Dual-Node Switching in this order, if they are as the assembler writes them;
+/// others as octets.
+fn append_coordination(out: &mut Vec<u8>, mut tlvs: &[u8]) {
+    const STATUS: [u8; 4] = [0, 1, 0, 20];
+    const SWITCHING: [u8; 4] = [0, 2, 0, 16];
+    while let Some((ends, [0, 0, 0, flags @ 0..=1, 0, 0, 0, state @ 0..=3])) = tlv_of(tlvs, STATUS)
+    {
+        append_ends(out, " status=", ends);
+        append_bits(out, &[(flags, b'P'), (state & 2, b'D'), (state & 1, b'F')]);
+        tlvs = tlvs.get(24..).unwrap_or_default();
+    }
+    while let Some((ends, [0, 0, 0, flags @ 0..=3])) = tlv_of(tlvs, SWITCHING) {
+        append_ends(out, " switching=", ends);
+        append_bits(out, &[(flags & 2, b'S'), (flags & 1, b'P')]);
+        tlvs = tlvs.get(20..).unwrap_or_default();
+    }
+    append_named_octets(out, " tlv=", tlvs);
+}
+
+/// Of the first TLV, if its type and length are these, three numbers and the octets behind them.
+fn tlv_of<const N: usize>(tlvs: &[u8], head: [u8; 4]) -> Option<([u8; 12], [u8; N])> {
+    let value = tlvs.strip_prefix(&head)?;
+    let (ends, behind) = value.split_first_chunk()?;
+    Some((*ends, *behind.first_chunk()?))
+}
+
+/// Destination/source/pseudowire.
+fn append_ends(out: &mut Vec<u8>, name: &str, ends: [u8; 12]) {
+    word(out, name);
+    for (at, between) in [(0, ""), (4, "/"), (8, "/")] {
+        word(out, between);
+        append_number(out, peer::octets::be32(&ends, at).into());
+    }
+}
+
+/// The letters of the bits that are set, behind a `/` if there is one.
+fn append_bits(out: &mut Vec<u8>, bits: &[(u8, u8)]) {
+    let mut set = bits.iter().filter(|(bit, _)| *bit != 0).peekable();
+    if set.peek().is_some() {
+        out.push(b'/');
+    }
+    out.extend(set.map(|(_, letter)| *letter));
 }

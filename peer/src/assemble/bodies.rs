@@ -3,7 +3,7 @@
 use super::words::{number, octets, Mistake, Words};
 use crate::capture::open_body;
 use crate::mep_id::{LSP, PSEUDOWIRE, SECTION};
-use crate::message::{CHANNEL_CC, CHANNEL_CV, CHANNEL_FAULT};
+use crate::message::{CHANNEL_CC, CHANNEL_CV, CHANNEL_DHC, CHANNEL_FAULT};
 
 /// The period of a session, and the intervals of a CC, where none is named.
 const USUAL_PERIOD: u32 = 1_000_000;
@@ -56,6 +56,7 @@ pub fn message(words: &mut Words) -> Result<Vec<u8>, Mistake> {
         Some("cv") => cv(words),
         Some("ais") => fault(words, 1),
         Some("lkr") => fault(words, 2),
+        Some("dhc") => dhc(words),
         Some(word) => Err(format!("no message: {word}")),
     }
 }
@@ -164,4 +165,60 @@ fn tlvs(words: &mut Words) -> Result<Vec<u8>, Mistake> {
         tlvs.extend(octets(word)?);
     }
     Ok(tlvs)
+}
+
+/// A dual-homing coordination message: PW Status, then Dual-Node Switching, then
+/// others as they are.
+fn dhc(words: &mut Words) -> Result<Vec<u8>, Mistake> {
+    let mut message = channel_header(words, CHANNEL_DHC)?;
+    message.extend(words.number("group", 0u32)?.to_be_bytes());
+    let mut tlvs = Vec::new();
+    while let Some(word) = words.value("status") {
+        let (numbers, [protection, degrade, fail]) = coordinated(word, ['P', 'D', 'F'])?;
+        tlvs.extend([0, 1, 0, 20]);
+        tlvs.extend(numbers);
+        tlvs.extend([0, 0, 0, protection, 0, 0, 0, 2 * degrade + fail]);
+    }
+    while let Some(word) = words.value("switching") {
+        let (numbers, [switch, protection]) = coordinated(word, ['S', 'P'])?;
+        tlvs.extend([0, 2, 0, 16]);
+        tlvs.extend(numbers);
+        tlvs.extend([0, 0, 0, 2 * switch + protection]);
+    }
+    while let Some(word) = words.value("tlv") {
+        tlvs.extend(octets(word)?);
+    }
+    let length = u16::try_from(tlvs.len()).map_err(|_| "too many TLVs")?;
+    message.extend(words.number("total", length)?.to_be_bytes());
+    message.extend(words.number("tlv-reserved", 0u16)?.to_be_bytes());
+    message.extend(tlvs);
+    Ok(message)
+}
+
+/// Destination/source/pseudowire, and behind a further `/` the letters of the
+/// bits that are set, in this order.
+fn coordinated<const N: usize>(
+    word: &str,
+    letters: [char; N],
+) -> Result<([u8; 12], [u8; N]), Mistake> {
+    let mistake = || format!("not destination/source/pseudowire and bits: {word}");
+    let parts: Vec<&str> = word.split('/').collect();
+    let mut left = match parts[..] {
+        [_, _, _] => "",
+        [_, _, _, set] if !set.is_empty() => set,
+        _ => return Err(mistake()),
+    };
+    let mut numbers = [0; 12];
+    for (to, part) in numbers.chunks_mut(4).zip(parts) {
+        to.copy_from_slice(&number::<u32>(part)?.to_be_bytes());
+    }
+    let bits = letters.map(|letter| {
+        let without = left.strip_prefix(letter);
+        left = without.unwrap_or(left);
+        u8::from(without.is_some())
+    });
+    match left {
+        "" => Ok((numbers, bits)),
+        _ => Err(mistake()),
+    }
 }
