@@ -24,6 +24,8 @@ static uint64_t now;
 static unsigned last_place; /* every scan comes to it last */
 static struct korvezul_circuit last; /* its label, called by its party */
 static uint8_t cc[KORVEZUL_CC_OCTETS], cv[KORVEZUL_CV_OCTETS], ais[9 + 254], buffer[KORVEZUL_CV_OCTETS];
+static uint8_t coordination[KORVEZUL_DHC_OCTETS];
+static const struct korvezul_dhc dhc = {7, {1, 55, 2, 1, 0, 0, 1}, {1, 55, 2, 1, 1, 0}};
 static uint8_t configuration[40];
 static size_t cv_octets; /* of the CV that is received */
 
@@ -91,7 +93,7 @@ static void prepare(unsigned open) {
     last = circuit_of(last_place);
 }
 
-/* What is received: a CC, a CV, and the fault message with the most TLVs, all passed over. */
+/* What is received: a CC, a CV, and the fault message with the most TLVs, all passed over; and what is read alone. */
 static void messages(void) {
     struct korvezul_packet p = {9, last.label, 1000000, 1000000, 0, 0, 3, 3, 1, 0, 0, 0};
     struct korvezul_mep_id expected = mep_of(20, last_place);
@@ -100,6 +102,7 @@ static void messages(void) {
     accepted(korvezul_write_cv_message(cv, sizeof cv, p, expected));
     cv_octets = (size_t)korvezul_read_cv(cv, sizeof cv).place;
     accepted(korvezul_write_configuration(configuration, sizeof configuration, 17, 1000000));
+    accepted(korvezul_write_dhc_message(coordination, sizeof coordination, dhc));
     accepted(korvezul_write_fault_message(ais, sizeof ais, f));
     ais[8] = 254;
     for (int i = 9; i < 9 + 254; i += 2)
@@ -138,6 +141,10 @@ static uint32_t cv_message(void) {
 }
 static uint32_t read_mep_id(void) { return korvezul_read_mep_id(cv + 28, cv_octets - 28).answer; }
 static uint32_t fault_message(void) { return korvezul_write_fault_message(buffer, sizeof buffer, fault); }
+static uint32_t dhc_message(void) { return korvezul_write_dhc_message(buffer, sizeof buffer, dhc); }
+static uint32_t read_dhc(void) { /* as it is written, with both TLVs */
+    return korvezul_read_dhc(coordination, sizeof coordination).answer;
+}
 static uint32_t write_configuration(void) {
     return korvezul_write_configuration(buffer, sizeof buffer, 17, 1000000);
 }
@@ -183,6 +190,8 @@ static const struct {
              {"write-cc-message", cc_message},
              {"write-cv-message", cv_message},
              {"write-fault-message", fault_message},
+             {"read-dhc", read_dhc},
+             {"write-dhc-message", dhc_message},
              {"read-configuration", read_configuration},
              {"write-configuration", write_configuration},
              {"log-header", log_header},
