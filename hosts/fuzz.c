@@ -1240,6 +1240,7 @@ int main(int argc, char **argv) {
         return dhc_messages(strtoull(argv[3], NULL, 10), argv[4]);
     if (argc == 4 && strcmp(argv[1], "random") == 0)
         return at_random(strtod(argv[3], NULL));
-    fprintf(stderr, "fuzz play | fuzz log | fuzz calls SEED N LIST | fuzz dhc SEED N LIST | fuzz random SEED SECONDS\n");
+    fprintf(stderr, "fuzz play | fuzz log | fuzz calls SEED N LIST | fuzz dhc SEED N LIST | "
+                    "fuzz random SEED SECONDS\n");
     return 2;
 }
