@@ -16,23 +16,30 @@ use Rattle.session.specs.declared.Session.{Session}
 use Rattle.table.specs.Table.{absent}
 use Rattle.log.specs.declared.Answer.{Answer}
 use Rattle.log.specs.Records.{headerFits}
+use Rattle.log.specs.Reading.{countOf}
 use Rattle.log.specs.Entries.{entryPoint, entryPlace}
 use Rattle.log.proofs.Runs.{reported}
 use Rattle.log.proofs.Asking.{OurLog, frontOf}
 use Rattle.indexing.specs.declared.IndexHead.{IndexHead}
 use Rattle.indexing.specs.Asking.{askRefusal, roomOf, askOf}
+use Rattle.indexing.specs.Filling.{entriesOf}
 use Rattle.indexing.proofs.Asks.{ask-head}
+use Rattle.indexing.proofs.Builds.{records-few}
 use Rattle.indexing.proofs.Counts.{header-size}
 use Rattle.index_file.specs.declared.Entry.{Entry}
 use Rattle.index_file.specs.Octets.{headOctets, entryOctets, headIn, entryIn}
 use Rattle.index_file.specs.Files.{placeOf, markOf, fileFits, headOf, entryAt, clocksIn, placesIn, recordsIn}
 use Rattle.index_file.specs.Seeking.{seekRefusal, soughtIn, askedFrom}
 use Rattle.index_file.specs.Windows.{windowOf}
-use Rattle.index_file.specs.Blocks.{entryFor}
+use Rattle.index_file.specs.Blocks.{startOf, entryFor, Building, blocksOf, finishedOf}
 use Rattle.index_file.proofs.Back.{EntryInRange, HeadInRange, entry-back, head-back}
 use Rattle.index_file.proofs.Asked.{clock-at, place-at, record-at, refusal-is, asked-file}
-use Rattle.index_file.proofs.Entire.{entryBefore, putFrom, entry-ours}
+use Rattle.index_file.proofs.Entire.{entryBefore, putFrom, endedAfter, streamed, entry-ours}
 use Rattle.index_file.proofs.Stretches.{stretch, drop-sets, stretch-sets, stretch-take, put-length, put-there}
+
+-- the octets that are written
+abbrev pub written : Building → List ℕ
+written b = take (finishedOf (b .out) (b .indexing) .size) (finishedOf (b .out) (b .indexing) .out)
 
 module _ (log : List ℕ) (l c : ℕ) (out : List ℕ) (few : c ≤ 256) (room : 64536 ≤ length out) where
   abbrev head : IndexHead
@@ -84,6 +91,21 @@ module _ (log : List ℕ) (l c : ℕ) (out : List ℕ) (few : c ≤ 256) (room :
       let s = drop q fileOf in
       let all : s ≡ entryOctets (entryFor (entryBefore log l k)) (drop 252 s) = sym (take-append-drop 252 s) ∙ ap (λ (x : List ℕ). x ++ drop 252 s) e in
       ap (λ (n : ℕ). entryIn (drop n fileOf)) p ∙ ap entryIn all ∙ entry-back (entryFor (entryBefore log l k)) (drop 252 s) ranges
+
+-- it is what the blocks and the head leave of a log that is counted with 0
+pub file-written : (log : List ℕ) (l w : ℕ) (out : List ℕ) → 8 ≤ w → length log ≤ 18446744073709551615 → countOf log .answer ≡ 0
+    → (few : entriesOf (countOf log .count) ≤ 256) (room : 64536 ≤ length out)
+    → written (blocksOf 256 log (record { indexing = startOf (take w log) l; out = out })) ≡ fileOf log l (entriesOf (countOf log .count)) out few room
+file-written log l w out h small e few room =
+    let n = countOf log .count in
+    let count : min (n / 256) 255 + 1 ≡ entriesOf n = omega (arith, records-few log) in
+    let told : min (min (n / 256) 255 + 1) 256 ≡ entriesOf n = omega (arith, records-few log) in
+    let put = putFrom log l (entriesOf n) 0 out in
+    let left : written (record { indexing = endedAfter log l (n / 256); out = put })
+        ≡ take (placeOf (min (n / 256) 255 + 1)) (sets put 0 (headOctets (record { length = length log; label = l; count = min (min (n / 256) 255 + 1) 256 }) [])) =
+    unfold finishedOf in refl in
+    ap written (streamed log l w out h small e) ∙ left
+    ∙ (λ i. take (placeOf (count i)) (sets put 0 (headOctets (record { length = length log; label = l; count = told i }) [])))
 
 -- asked by the file that is built
 module _ (row : List Session) (log : List ℕ) (n : ℕ) (our : OurLog row log n) (l u : ℕ) (top : u ≤ latest) (good : headerFits log ≡ true)
