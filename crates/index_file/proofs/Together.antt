@@ -102,7 +102,7 @@ file-written log l w out h small e few room =
     let told : min (min (n / 256) 255 + 1) 256 ≡ entriesOf n = omega (arith, records-few log) in
     let put = putFrom log l (entriesOf n) 0 out in
     let left : written (record { indexing = endedAfter log l (n / 256); out = put })
-        ≡ take (placeOf (min (n / 256) 255 + 1)) (sets put 0 (headOctets (record { length = length log; label = l; count = min (min (n / 256) 255 + 1) 256 }) [])) =
+    ≡ take (placeOf (min (n / 256) 255 + 1)) (sets put 0 (headOctets (record { length = length log; label = l; count = min (min (n / 256) 255 + 1) 256 }) [])) =
     unfold finishedOf in refl in
     ap written (streamed log l w out h small e) ∙ left
     ∙ (λ i. take (placeOf (count i)) (sets put 0 (headOctets (record { length = length log; label = l; count = told i }) [])))
