@@ -4,27 +4,24 @@ use Prim.Native.Nat.{ℕ, zero, suc, min, _+_, _-_, _/_, _≤_, _<_}
 use native.Mathlib.Omega.{arith}
 use native.Mathlib.Nat.{min-eq-left}
 use mathlib.Core.Path.{_≡_, refl, sym, ap, _∙_}
-use mathlib.Core.Bool.{Bool, true, false, cond, _&&_}
+use mathlib.Core.Bool.{Bool, _&&_}
 use mathlib.Core.List.{List}
 use lib.ListN.{length, getD}
 use lib.Dec.{eqb, ltb, leb}
 use borrow.Author.Tests.{eqb-true, ltb-false}
 use Rattle.rules.proofs.Bools.{split}
-use Rattle.session.specs.declared.Session.{Session}
 use Rattle.table.specs.Table.{absent}
 use Rattle.halving.specs.declared.Found.{Found}
-use Rattle.halving.specs.Search.{halving, found, looksOf, looks}
+use Rattle.halving.specs.Search.{found, looksOf, looks}
 use Rattle.halving.proofs.Halves.{found-inside}
 use Rattle.log.specs.declared.Answer.{Answer}
 use Rattle.log.specs.Records.{headerFits}
-use Rattle.log.specs.Reading.{entryFits, refusedWith}
-use Rattle.indexing.specs.declared.IndexHead.{IndexHead}
+use Rattle.log.specs.Reading.{entryFits}
 use Rattle.indexing.specs.Asking.{askRefusal, answerAt, roomOf, fitsAt, allFit, answerOf, searched, askOf}
-use Rattle.index_file.specs.declared.Entry.{Entry}
 use Rattle.index_file.specs.declared.Sought.{Sought}
 use Rattle.index_file.specs.Octets.{entryIn}
-use Rattle.index_file.specs.Files.{headOf, clockAt, entryAt, each, clocksIn, placesIn, recordsIn}
-use Rattle.index_file.specs.Seeking.{fitsIn, judgedBy, judgedOf, seekRefusal, refusedBy, usedIn, soughtBy, soughtIn, askedFrom}
+use Rattle.index_file.specs.Files.{headOf, clockAt, entryAt, clocksIn, placesIn, recordsIn}
+use Rattle.index_file.specs.Seeking.{fitsIn, judgedOf, seekRefusal, usedIn, soughtBy, soughtIn, askedFrom}
 use Rattle.index_file.specs.Windows.{windowOf}
 use Rattle.index_file.proofs.Lists.{each-length, each-at}
 use Rattle.index_file.proofs.Judged.{judged-is}

@@ -1,10 +1,9 @@
 -- What is written into an index file reads back: its head, and each entry with its record.
 -- Assumes nothing.
 use Prim.Native.Nat.{ℕ, _^_, _<_}
-use mathlib.Core.Path.{_≡_, ap, _∙_}
-use mathlib.Core.List.{List, [], _∷_}
-use lib.ListN.{getD, drop}
-use Rattle.octets.specs.Numbers.{numberAt, octetsOf}
+use mathlib.Core.Path.{_≡_}
+use mathlib.Core.List.{List, _∷_}
+use Rattle.octets.specs.Numbers.{octetsOf}
 use Rattle.octets.proofs.Numbers.{read-of}
 use Rattle.cv.specs.declared.Agi.{Agi}
 use Rattle.cv.specs.declared.MepId.{MepId}

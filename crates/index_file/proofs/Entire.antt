@@ -3,7 +3,7 @@
 use Prim.Native.Nat.{ℕ, zero, suc, min, _+_, _*_, _-_, _/_, _≤_, _<_}
 use native.Mathlib.Omega.{arith}
 use mathlib.Core.Path.{_≡_, refl, sym, ap, _∙_}
-use mathlib.Core.Bool.{Bool, true, false, cond, _&&_}
+use mathlib.Core.Bool.{Bool, true, false, _&&_}
 use mathlib.Core.List.{List, []}
 use lib.ListN.{length, take, drop, length-drop}
 use lib.Seq.{sets, drop-drop}
@@ -12,7 +12,6 @@ use borrow.Author.Tests.{eqb-true, eqb-false, eq-eqb, ne-eqb, lt-ltb, ltb-true, 
 use Rattle.octets.specs.Choice.{need}
 use Rattle.octets.proofs.Chain.{and-both}
 use Rattle.rules.proofs.Bools.{split}
-use Rattle.log.specs.declared.Point.{Point}
 use Rattle.log.specs.declared.Ended.{Ended}
 use Rattle.log.specs.Records.{headerFits}
 use Rattle.log.specs.Reading.{readTo, endedAt, never, atStart, readAll, countOf}
@@ -23,7 +22,6 @@ use Rattle.indexing.specs.Filling.{entriesOf}
 use Rattle.indexing.proofs.Counts.{header-size}
 use Rattle.indexing.proofs.Filled.{place-rest, entry-next}
 use Rattle.session.specs.declared.Session.{Session}
-use Rattle.index_file.specs.declared.Entry.{Entry}
 use Rattle.index_file.specs.declared.Indexing.{Indexing}
 use Rattle.index_file.specs.Octets.{entryOctets}
 use Rattle.index_file.specs.Files.{placeOf}

@@ -1,16 +1,15 @@
 -- An index file built from windows of a log: a block is what the whole log from its place on gives, and the entry behind it is the one that building in one call fills in.
 -- Assumes nothing.
-use Prim.Native.Nat.{ℕ, min, _+_, _-_, _≤_, _<_}
+use Prim.Native.Nat.{ℕ, min, _+_, _-_, _≤_}
 use native.Mathlib.Omega.{arith}
 use native.Mathlib.Nat.{min-eq-left}
-use mathlib.Core.Path.{_≡_, refl, sym, ap, _∙_}
-use mathlib.Core.Bool.{Bool, true, false, cond}
+use mathlib.Core.Path.{_≡_, refl, ap, _∙_}
+use mathlib.Core.Bool.{true, false, cond}
 use mathlib.Core.List.{List}
-use lib.ListN.{length, take, drop, length-drop}
+use lib.ListN.{length, drop, length-drop}
 use lib.Dec.{eqb, ltb}
 use borrow.Author.Tests.{eqb-true, eqb-false, ne-eqb}
 use Rattle.rules.proofs.Bools.{split}
-use Rattle.log.specs.declared.Point.{Point}
 use Rattle.log.specs.declared.Ended.{Ended}
 use Rattle.log.specs.Reading.{readTo, never}
 use Rattle.log.proofs.Turns.{left-most}
@@ -18,7 +17,7 @@ use Rattle.indexing.specs.declared.Filling.{Filling}
 use Rattle.indexing.specs.Filling.{readsFor, readFor, filledBy}
 use Rattle.index_file.specs.declared.Indexing.{Indexing}
 use Rattle.index_file.specs.Windows.{windowSize, windowOf}
-use Rattle.index_file.specs.Blocks.{further, onward, overAt, refusedAt, afterBlock, blockOf}
+use Rattle.index_file.specs.Blocks.{further, refusedAt, afterBlock, blockOf}
 use Rattle.index_file.proofs.Windows.{Alike, alike}
 
 -- what the records behind an entry come to, with the whole log

@@ -1,17 +1,15 @@
 -- The file that is built: each entry stands at its place, and the head before them.
 -- Assumes nothing.
-use Prim.Native.Nat.{ℕ, zero, suc, min, _+_, _*_, _-_, _≤_, _<_}
+use Prim.Native.Nat.{ℕ, zero, suc, _+_, _*_, _-_, _≤_, _<_}
 use native.Mathlib.Omega.{arith}
 use native.Mathlib.Nat.{min-eq-left}
 use mathlib.Core.Path.{_≡_, refl, sym, ap, _∙_}
-use mathlib.Core.Bool.{Bool, true, false}
 use mathlib.Core.List.{List, [], _∷_, _++_, append-assoc}
-use lib.ListN.{length, set, take, drop, take-append-drop, length-set}
+use lib.ListN.{length, set, take, drop}
 use lib.Seq.{sets, sets-eq, length-sets, length-take-le, take-set-le, drop-set-lt, take-take, take-at, drop-at}
 use lib.Dec.{eqb}
 use borrow.Author.Tests.{eqb-true, eqb-false}
 use Rattle.rules.proofs.Bools.{split}
-use Rattle.index_file.specs.declared.Entry.{Entry}
 use Rattle.index_file.specs.Octets.{entryOctets}
 use Rattle.index_file.specs.Files.{placeOf}
 use Rattle.index_file.specs.Blocks.{entryFor}

@@ -4,16 +4,15 @@ use Prim.Native.Nat.{ℕ, min, _+_, _*_, _-_, _/_, _^_, _≤_, _<_}
 use native.Mathlib.Omega.{arith}
 use native.Mathlib.Nat.{min-eq-left}
 use mathlib.Core.Path.{_≡_, refl, sym, ap, _∙_}
-use mathlib.Core.Bool.{Bool, true, false, cond, not, _&&_}
+use mathlib.Core.Bool.{true, false}
 use mathlib.Core.List.{List, [], _++_}
-use lib.ListN.{length, getD, take, drop, take-append-drop}
+use lib.ListN.{length, take, drop, take-append-drop}
 use lib.Seq.{sets, length-sets, length-take-le}
-use lib.Dec.{eqb, ltb, leb}
+use lib.Dec.{eqb, leb}
 use borrow.Author.Tests.{eq-eqb, ne-eqb, le-ltb, le-leb}
 use Rattle.octets.specs.Numbers.{numberAt}
 use Rattle.rules.specs.Times.{latest}
 use Rattle.session.specs.declared.Session.{Session}
-use Rattle.table.specs.Table.{absent}
 use Rattle.log.specs.declared.Answer.{Answer}
 use Rattle.log.specs.Records.{headerFits}
 use Rattle.log.specs.Reading.{countOf}
@@ -21,7 +20,7 @@ use Rattle.log.specs.Entries.{entryPoint, entryPlace}
 use Rattle.log.proofs.Runs.{reported}
 use Rattle.log.proofs.Asking.{OurLog, frontOf}
 use Rattle.indexing.specs.declared.IndexHead.{IndexHead}
-use Rattle.indexing.specs.Asking.{askRefusal, roomOf, askOf}
+use Rattle.indexing.specs.Asking.{askRefusal, roomOf}
 use Rattle.indexing.specs.Filling.{entriesOf}
 use Rattle.indexing.proofs.Asks.{ask-head}
 use Rattle.indexing.proofs.Builds.{records-few}

@@ -1,9 +1,9 @@
 -- A window of a log is enough: what is read of at most n records is the same from the front of the octets, if that could hold so many.
 -- Assumes nothing.
-use Prim.Native.Nat.{ℕ, zero, suc, min, _+_, _*_, _-_, _≤_, _<_}
+use Prim.Native.Nat.{ℕ, zero, suc, _+_, _*_, _-_, _≤_, _<_}
 use native.Mathlib.Omega.{arith}
 use mathlib.Core.Path.{_≡_, refl, sym, ap, subst, _∙_}
-use mathlib.Core.Bool.{Bool, true, false, cond, not, _&&_}
+use mathlib.Core.Bool.{true, cond, not, _&&_}
 use mathlib.Core.List.{List, [], _∷_}
 use lib.ListN.{length, getD, take, drop, length-take, length-drop}
 use lib.Seq.{take-take, getD-take, take-nil}
@@ -16,7 +16,6 @@ use Rattle.session.specs.declared.Session.{Session}
 use Rattle.capture.specs.declared.Record.{Record}
 use Rattle.capture.specs.Records.{recordIn}
 use Rattle.own.specs.Records.{recordAfter}
-use Rattle.log.specs.declared.Answer.{Answer}
 use Rattle.log.specs.declared.Point.{Point}
 use Rattle.log.specs.declared.Ended.{Ended}
 use Rattle.log.specs.Records.{headerFits, headerIs, answerIn, bodyIn, sizeIn, wholeOf, isWhole, isCut, behind}

@@ -1,7 +1,7 @@
 -- The octets of an index file: a head of 24 octets, and an entry of 252. The fields of a record stand in the order in which it is declared. Each part is written before the octets of rest.
 -- Assumes nothing.
 use Prim.Native.Nat.{ℕ}
-use mathlib.Core.List.{List, [], _∷_}
+use mathlib.Core.List.{List, _∷_}
 use lib.ListN.{getD, drop}
 use Rattle.octets.specs.Numbers.{numberAt, octetsOf}
 use Rattle.cv.specs.declared.Agi.{Agi}

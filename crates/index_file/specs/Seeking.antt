@@ -3,7 +3,6 @@
 use Prim.Native.Nat.{ℕ, zero, suc, min, _+_, _-_, _/_}
 use mathlib.Core.Bool.{Bool, false, cond}
 use mathlib.Core.List.{List}
-use lib.ListN.{length}
 use lib.Dec.{eqb, ltb, leb}
 use Rattle.octets.specs.Choice.{need, bar}
 use Rattle.rules.specs.Times.{latest}

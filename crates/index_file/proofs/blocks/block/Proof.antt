@@ -1,12 +1,12 @@
 -- `index_file::block` meets its contract.
 -- Assumes nothing.
-use mathlib.Core.Path.{_≡_, ap, _∙_}
+use mathlib.Core.Path.{ap, _∙_}
 use lib.ListN.{length}
 use lib.Seq.{sets}
 use native.Mathlib.Omega.{arith}
 use borrow.Author.Needs.{needs}
 use Rattle.log.specs.declared.Ended.{Ended}
-use Rattle.log.specs.Reading.{readTo, never}
+use Rattle.log.specs.Reading.{never}
 use Rattle.log.proofs.Turns.{left-most}
 use Rattle.index_file.specs.Blocks.{afterBlock, blockOf}
 use Rattle.index_file.proofs.blocks.block.Statement.{statement}

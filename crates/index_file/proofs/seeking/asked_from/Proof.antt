@@ -1,6 +1,5 @@
 -- `index_file::asked_from` meets its contract.
 -- Assumes nothing.
-use mathlib.Core.Path.{_∙_}
 use borrow.Author.Needs.{needs}
 use borrow.Author.Tests.{eq-eqb, ne-eqb}
 use Rattle.index_file.specs.Seeking.{askedFrom}

@@ -2,7 +2,7 @@
 -- Assumes nothing.
 use Prim.Native.Nat.{_-_}
 use native.Mathlib.Omega.{arith}
-use mathlib.Core.Path.{_≡_, refl}
+use mathlib.Core.Path.{refl}
 use borrow.Author.Needs.{needs}
 use Rattle.index_file.specs.Files.{clockAt}
 use Rattle.index_file.proofs.Lists.{Filled, filled-none, filled-more, filled-all}
