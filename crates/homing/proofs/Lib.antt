@@ -1,0 +1,4 @@
+pub mod Forwarding
+pub mod Fits
+pub mod Laws
+pub mod Orders
