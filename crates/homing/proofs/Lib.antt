@@ -2,3 +2,5 @@ pub mod Forwarding
 pub mod Fits
 pub mod Laws
 pub mod Orders
+pub mod Strays
+pub mod Worked

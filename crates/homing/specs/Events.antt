@@ -51,3 +51,18 @@ isCalling (Return loss crossing) = false
 abbrev pub none : (Event → Bool) → List Event → Type 0
 none test [] = Unit {0}
 none test (e ∷ es) = (test e ≡ false) × none test es
+
+abbrev pub isAc : Event → Bool
+isAc (Timer loss) = false
+isAc Crossed = false
+isAc (Message d) = false
+isAc (Ac ac) = true
+isAc (Return loss crossing) = false
+
+-- what no event touches: whether there is a group, its ID, peer, DNI-PW and role
+pub record SameGroup (g h : Group) : Type 0 where
+  pub id : g .id ≡ h .id
+  pub peer : g .peer ≡ h .peer
+  pub dni : g .dni ≡ h .dni
+  pub set : g .set ≡ h .set
+  pub role : g .role ≡ h .role

@@ -5,3 +5,5 @@ pub mod Unfit
 pub mod Setting
 pub mod Forwarding
 pub mod Events
+pub mod Stray
+pub mod Worked
