@@ -1,6 +1,7 @@
 pub mod Forwarding
 pub mod Fits
 pub mod Laws
+pub mod Courses
 pub mod Orders
 pub mod Strays
 pub mod Worked

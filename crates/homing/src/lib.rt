@@ -10,16 +10,16 @@ mod steps;
 pub use fitting::group_fits;
 pub use paths::forwarding_of;
 pub use paths::group_report;
+pub use received::coordinated_by;
 pub use received::has_id;
-pub use received::switched_by;
 pub use received::takes_from;
 pub use setting::group_of;
 pub use setting::no_group;
 pub use setting::set_refusal;
+pub use steps::ac_set;
 pub use steps::crossed_by;
 pub use steps::fallen_at;
 pub use steps::returned_at;
-pub use steps::with_ac;
 
 // Numbers alone, so that a record that holds them can be lent by any caller. `dni` is the label of the
 // DNI-PW; the service PW's is that of the record in which the group lies. `set` is 1 where there is a

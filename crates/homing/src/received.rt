@@ -82,7 +82,7 @@ fn switched_pw(switch: bool, fail: bool, role: u8, pw: u8) -> u8
 }
 
 // A message that is taken.
-pub fn switched_by(g: Group, d: Dhc) -> Group
+pub fn coordinated_by(g: Group, d: Dhc) -> Group
     ensures { λ r. ⌜ r ≡ coordinated d g ⌝ }
 {
     let status = d.status;

@@ -7,7 +7,7 @@ ghost use mathlib.Core.Bool.{cond};
 ghost use Rattle.homing.specs.Groups.{acSet, returned, lowered, fallen, crossedBy};
 
 // Setting the AC: 0 is standby, every other number active.
-pub fn with_ac(g: Group, ac: u8) -> Group
+pub fn ac_set(g: Group, ac: u8) -> Group
     ensures { λ r. ⌜ r ≡ acSet ac g ⌝ }
 {
     let mut next = g;
