@@ -4,4 +4,5 @@ pub mod Laws
 pub mod Courses
 pub mod Orders
 pub mod Strays
+pub mod Answers
 pub mod Worked
