@@ -99,6 +99,11 @@ module _ (d : Dhc) (loss later : Bool) (l : later ≡ true → loss ≡ true) (g
       ap (coordinated d) (sym (crossed-loss later (fallen loss g)) ∙ ap crossedBy found-again)
       ∙ (message-crossed d (fallen loss g) ∙ ap crossedBy (sym looked-again))
 
--- asked where TIMER has been given, a group tells the same
-pub told-again : (loss up : Bool) (g : Group) → groupReport loss up (fallen loss g) ≡ groupReport loss up g
-told-again loss up g = ap (reportOf up) (loss-again loss g)
+-- A loss that stands at one reading stands at every later one until the session's own next call, so looking for it at the last is enough: what is
+-- kept, and what is told.
+module _ (earlier later : Bool) (l : earlier ≡ true → later ≡ true) (g : Group) where
+  pub looked-later : fallen later (fallen earlier g) ≡ fallen later g
+  looked-later = split earlier (λ a. rw (a, l a) (loss-loss true true g)) (λ a. rw a)
+
+  pub told-later : (up : Bool) → groupReport later up (fallen earlier g) ≡ groupReport later up g
+  told-later up = ap (reportOf up) looked-later
