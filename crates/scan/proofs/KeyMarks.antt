@@ -17,7 +17,6 @@ use Rattle.rules.proofs.Bools.{split, no-way, or-cases, or-left, or-right, refu
 use Rattle.rules.proofs.Lists.{Inserted, any-inserted, once-inserted, once-head, once-rest, once-cons, numbers-alike}
 use Rattle.rules.proofs.Counting.{oneIf, count, count-inserted}
 use Rattle.rules.proofs.TwoParties.{party-most}
-use Rattle.rules.specs.Parties.{partyOf}
 use Rattle.scan.specs.Distinct.{ownKey, keyIn, keyStands, filled, keys, distinctIn, reachOf, reached, firstWith, placeIn}
 
 -- ---- lists of numbers
@@ -278,19 +277,20 @@ module _ (pairs : List ℕ) where
   unfolding filled
   numbers-more i h e = numbers-step i h ∙ rw (ne-eqb (getD pairs i 0) 0 e)
 
--- two discriminators within their parties are one where both are
-pub own-eqb : (l m d e : ℕ) → eqb (ownKey l d) (ownKey m e) ≡ eqb d e && eqb (partyOf l) (partyOf m)
-own-eqb l m d e =
-    split (eqb d e)
-    (λ a. rw a (split (eqb (partyOf l) (partyOf m))
-    (λ b. rw b (eq-eqb (ownKey l d) (ownKey m e) (omega (arith, eqb-true d e a, eqb-true (partyOf l) (partyOf m) b))))
-    (λ b. rw b (ne-eqb (ownKey l d) (ownKey m e) (λ z. eqb-false (partyOf l) (partyOf m) b (omega (arith, eqb-true d e a, z)))))))
-    (λ a. rw a (ne-eqb (ownKey l d) (ownKey m e) (λ z. eqb-false d e a (omega (arith, party-most l, party-most m, z)))))
-
 -- who has a discriminator within a party has the discriminator
 same-number : (x q : ℕ) → eqb (keyIn false q) x ≡ true → eqb (q / 4294967296) (x / 2) ≡ true
 same-number x q e =
     eq-eqb (q / 4294967296) (x / 2) (omega (arith, party-most (q % 4294967296), eqb-true (keyIn false q) x e))
+
+-- a discriminator that is not there is not there in any party
+pub none-within : (l d : ℕ) (ps : List ℕ) → any (λ p. eqb (p / 4294967296) d) ps ≡ false → any (λ p. eqb (keyIn false p) (ownKey l d)) ps ≡ false
+unfolding any
+none-within l d [] e = refl
+none-within l d (p ∷ ps) e =
+    let f = neither (eqb (p / 4294967296) d) (any (λ q. eqb (q / 4294967296) d) ps) e in
+    let unlike : eqb (keyIn false p) (ownKey l d) ≡ false =
+    ne-eqb (keyIn false p) (ownKey l d) (λ z. eqb-false (p / 4294967296) d (f .0) (omega (arith, party-most (p % 4294967296), party-most l, z))) in
+    rw unlike (none-within l d ps (f .1))
 
 among-numbers : (x : ℕ) (ps : List ℕ) → any (eqb x) (map (keyIn false) ps) ≡ true → any (eqb (x / 2)) (map (λ p. p / 4294967296) ps) ≡ true
 unfolding any

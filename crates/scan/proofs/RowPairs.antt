@@ -93,6 +93,16 @@ with-front label (x ∷ xs) ys e =
     suc-out true m n = refl
     suc-out false m n = refl
 
+any-noughts : (test : ℕ → Bool) (n : ℕ) → test 0 ≡ false → any test (replicate n 0) ≡ false
+unfolding any
+any-noughts test zero e = refl
+any-noughts test (suc n) e = let rest = any-noughts test n e in rw e rest
+
+any-front : (test : ℕ → Bool) (xs ys : List ℕ) → any test ys ≡ false → any test xs ≡ any test (xs ++ ys)
+unfolding any
+any-front test [] ys e = sym e
+any-front test (x ∷ xs) ys e = ap (λ (b : Bool). test x || b) (any-front test xs ys e)
+
 module _ (set : ℕ) (row : List Session) (n : length row ≡ 64) where
   behind : drop (reachOf set) (pairsOf set row) ≡ replicate (length (drop (reachOf set) (pairsOf set row))) 0
   unfolding reachOf
@@ -110,6 +120,11 @@ module _ (set : ℕ) (row : List Session) (n : length row ≡ 64) where
       ap (λ (l : List ℕ). cond (ltb (firstWith label (reached set (pairsOf set row))) (length (reached set (pairsOf set row)))) (firstWith label (reached set (pairsOf set row))) (length l)) (sym whole)
       ∙ with-front label (reached set (pairsOf set row)) (drop (reachOf set) (pairsOf set row)) none
       ∙ ap (firstWith label) whole
+
+  any-reached : (test : ℕ → Bool) → test 0 ≡ false → any test (reached set (pairsOf set row)) ≡ any test (pairsOf set row)
+  any-reached test e =
+      any-front test (reached set (pairsOf set row)) (drop (reachOf set) (pairsOf set row)) (ap (any test) behind ∙ any-noughts test (length (drop (reachOf set) (pairsOf set row))) e)
+      ∙ ap (any test) whole
 
 -- the place of a label is in the row where an open record has it
 pub place-any : (label set : ℕ) (rows : List Session) → ltb (placeOf label set rows) (length rows) ≡ any (hasLabel label) (opens set rows)
@@ -287,15 +302,15 @@ module _ (clock : ℕ) where
       four false true false d = refl
       four false false c d = refl
 
-  pub pairs-rival : (label discriminator set : ℕ) (rows : List Session) → (discriminator ≡ 0 → ⊥) → any unsoundAt (opens set rows) ≡ false
-      → rivalIn (pairsOf set rows) (placeOf label set rows) label discriminator
+  pub pairs-rival : (label discriminator set : ℕ) (rows : List Session) → length rows ≡ 64 → (discriminator ≡ 0 → ⊥) → any unsoundAt (opens set rows) ≡ false
+      → rivalIn (pairsOf set rows) set (placeOf label set rows) label discriminator
       ≡ any (λ r. eqb (r .settings .label) label || eqb (ownDiscriminator (r .settings)) (ownKey label discriminator)) (opens set rows)
   unfolding rivalIn
-  pairs-rival label discriminator set rows d e =
+  pairs-rival label discriminator set rows n d e =
       let key = ownKey label discriminator in
       let some : key ≡ 0 → ⊥ = λ z. d (omega (arith, z)) in
       let other : Session → Bool = λ r. eqb (ownDiscriminator (r .settings)) key in
-      rw (length-pairs set rows, place-any label set rows, ne-eqb discriminator 0 d, any-pairs key set rows some e)
+      rw (length-pairs set rows, place-any label set rows, ne-eqb discriminator 0 d, any-reached set rows n (λ p. eqb (keyIn false p) key) (ne-eqb 0 key (λ z. some (sym z))), any-pairs key set rows some e)
       (or-cond (any (hasLabel label) (opens set rows)) (any other (opens set rows)) ∙ any-either (hasLabel label) other (opens set rows))
     where
       or-cond : (a b : Bool) → cond a true b ≡ a || b

@@ -195,7 +195,7 @@ module _ (row : List Session) (head : Head) (target : Target) where
     summary-found : summaryOf row head target ≡ record {
       place = placeOf (target .label) (head .occupied) row;
       sound = apartAndShared;
-      rival = rivalIn (pairsOf (head .occupied) row) (placeOf (target .label) (head .occupied) row) (target .label) (target .discriminator);
+      rival = rivalIn (pairsOf (head .occupied) row) (head .occupied) (placeOf (target .label) (head .occupied) row) (target .label) (target .discriminator);
       full = eqb (openBy (partyOf (target .label)) table) ownMost;
     }
     unfolding summaryOf judgedOf passOf
@@ -241,7 +241,7 @@ module _ (row : List Session) (head : Head) (target : Target) where
     in-order : summaryOf row head target ≡ record {
       place = placeOf (target .label) (head .occupied) row;
       sound = apartAndShared;
-      rival = rivalIn (pairsOf (head .occupied) row) (placeOf (target .label) (head .occupied) row) (target .label) (target .discriminator);
+      rival = rivalIn (pairsOf (head .occupied) row) (head .occupied) (placeOf (target .label) (head .occupied) row) (target .label) (target .discriminator);
       full = eqb (openBy (partyOf (target .label)) table) ownMost;
     }
     in-order = summary-found (parts .0) (parts .1)
@@ -256,7 +256,7 @@ module _ (row : List Session) (head : Head) (target : Target) where
       ≡ any (λ r. eqb (r .settings .label) (target .label) || eqb (ownDiscriminator (r .settings)) (ownKey (target .label) (target .discriminator))) (opens (head .occupied) row)
   summary-rival o d =
       ap (λ (s : Summary). s .rival) (in-order o)
-      ∙ pairs-rival (head .clock) (target .label) (target .discriminator) (head .occupied) row d (parts o .1)
+      ∙ pairs-rival (head .clock) (target .label) (target .discriminator) (head .occupied) row (parts o .0) d (parts o .1)
 
   -- the label's party has opened all that it may
   pub summary-full : inOrder table ≡ true → summaryOf row head target .full ≡ eqb (openBy (partyOf (target .label)) table) ownMost

@@ -65,7 +65,7 @@ placeIn label occupied pairs =
     cond (eqb label 0) (length pairs) (cond (ltb place (length (reached occupied pairs))) place (length pairs))
 
 -- the label was found, or the discriminator is there in the label's party; nobody asks for the discriminator 0
-unfoldable pub rivalIn : List ℕ → ℕ → ℕ → ℕ → Bool
-rivalIn pairs place label discriminator =
+unfoldable pub rivalIn : List ℕ → ℕ → ℕ → ℕ → ℕ → Bool
+rivalIn pairs occupied place label discriminator =
     cond (ltb place (length pairs)) true
-    (cond (eqb discriminator 0) false (any (λ p. eqb (keyIn false p) (ownKey label discriminator)) pairs))
+    (cond (eqb discriminator 0) false (any (λ p. eqb (keyIn false p) (ownKey label discriminator)) (reached occupied pairs)))

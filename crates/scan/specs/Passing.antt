@@ -3,7 +3,7 @@
 use Prim.Native.Nat.{ℕ, suc, _-_, _/_}
 use mathlib.Core.Bool.{Bool, true, false, cond, _&&_, _||_}
 use mathlib.Core.List.{List, [], _∷_}
-use lib.ListN.{length, set, replicate}
+use lib.ListN.{length, set, take, replicate}
 use lib.Dec.{eqb, ltb, leb}
 use Rattle.rules.specs.Parties.{isOf, ownMost}
 use Rattle.session.specs.declared.Session.{Session}
@@ -92,7 +92,7 @@ sharedOf label all theirs =
 unfoldable pub shareIn : List ℕ → ℕ → ℕ → Share
 shareIn pairs occupied label =
     let all = occupiedOf 64 occupied in
-    cond (ltb all ownMost) (record { kept = true; full = false }) (sharedOf label all (theirsOf pairs))
+    cond (ltb all ownMost) (record { kept = true; full = false }) (sharedOf label all (theirsOf (take 64 pairs)))
 
 unfoldable pub judgedOf : List ℕ → Progress → Summary
 judgedOf pairs s =
@@ -100,7 +100,7 @@ judgedOf pairs s =
     record {
       place = placeIn (s .label) (s .occupied) pairs;
       sound = eqb (s .fault) 0 && (apart pairs (s .occupied) && share .kept);
-      rival = rivalIn pairs (placeIn (s .label) (s .occupied) pairs) (s .label) (s .discriminator);
+      rival = rivalIn pairs (s .occupied) (placeIn (s .label) (s .occupied) pairs) (s .label) (s .discriminator);
       full = share .full;
     }
 

@@ -1,7 +1,6 @@
 // The keys of the open records: no two labels alike, and no two discriminators of one party, with
 // marks, so that only a number whose mark is there is searched among those before it; the place
 // of a label; whether a label or a discriminator is there; how many labels are theirs.
-use octets::both;
 use octets::either;
 use octets::least;
 ghost use mathlib.Core.Path.{_≡_};
@@ -9,9 +8,8 @@ ghost use mathlib.Core.Bool.{true, false, _&&_};
 ghost use lib.Dec.{eqb};
 ghost use lib.ListN.{take};
 ghost use Prim.Native.Nat.{_/_};
-ghost use Rattle.rules.specs.Parties.{partyOf};
 ghost use Rattle.rules.specs.Lists.{any};
-ghost use Rattle.scan.specs.Distinct.{keyPair, ownKey, keyIn, alike, keyStands, reachOf, distinctIn, placeIn, rivalIn, theirsOf};
+ghost use Rattle.scan.specs.Distinct.{keyPair, ownKey, keyIn, alike, keyStands, reachOf, reached, distinctIn, placeIn, rivalIn, theirsOf};
 
 pub fn key_pair(label: u32, discriminator: u32) -> u64
     ensures { λ r. ⌜ r ≡ keyPair label discriminator ⌝ }
@@ -129,21 +127,17 @@ pub fn distinct(pairs: &[u64], occupied: u64) -> bool
     true
 }
 
-// 1 for a label that is theirs: by a carry into the 33rd bit, so that labels are counted two at a time.
-fn theirs_one(label: u32) -> u64
-    ensures { λ r. ⌜ r ≡ partyOf label ⌝ }
+// How many labels are theirs, of the first 64 pairs: behind the last occupied place there is none.
+pub fn theirs_in(pairs: &[u64]) -> u32
+    ensures { λ r. ⌜ r ≡ theirsOf (take 64 (now (pairs .entry))) ⌝ }
 {
-    (label as u64 + 4_294_467_296) / 4_294_967_296
-}
-
-// How many labels are theirs. All pairs are looked at: behind the last occupied place there is none.
-pub fn theirs_in(pairs: &[u64]) -> u64
-    ensures { λ r. ⌜ r ≡ theirsOf (now (pairs .entry)) ⌝ }
-{
-    let mut theirs: u64 = 0;
+    let n = least(64, pairs.len());
+    let mut theirs: u32 = 0;
     let mut i: usize = 0;
-    while i < pairs.len() {
-        theirs += theirs_one(label_in(pairs[i]));
+    while i < n {
+        if rules::party_of(label_in(pairs[i])) == 1 {
+            theirs += 1;
+        }
         i += 1;
     }
     theirs
@@ -167,22 +161,14 @@ pub fn place_in(pairs: &[u64], occupied: u64, label: u32) -> usize
     pairs.len()
 }
 
-// A pair has this discriminator, and a label of this one's party. By halves of 32 bits, which are
-// compared four at a time.
-fn is_own(p: u64, label: u32, discriminator: u32) -> bool
-    ensures { λ r. ⌜ r ≡ eqb (keyIn false p) (ownKey label discriminator) ⌝ }
+fn has_discriminator(pairs: &[u64], occupied: u64, discriminator: u32) -> bool
+    ensures { λ r. ⌜ r ≡ any (λ p. eqb (p / 4294967296) discriminator) (reached occupied (now (pairs .entry))) ⌝ }
 {
-    let own = rules::party_of(label_in(p)) == rules::party_of(label);
-    both(discriminator_in(p) == discriminator, own)
-}
-
-fn has_own(pairs: &[u64], label: u32, discriminator: u32) -> bool
-    ensures { λ r. ⌜ r ≡ any (λ p. eqb (keyIn false p) (ownKey label discriminator)) (now (pairs .entry)) ⌝ }
-{
+    let n = least(reach(occupied), pairs.len());
     let mut found = false;
     let mut i: usize = 0;
-    while i < pairs.len() {
-        if is_own(pairs[i], label, discriminator) {
+    while i < n {
+        if discriminator_in(pairs[i]) == discriminator {
             found = true;
         }
         i += 1;
@@ -190,9 +176,34 @@ fn has_own(pairs: &[u64], label: u32, discriminator: u32) -> bool
     found
 }
 
+fn has_key(pairs: &[u64], occupied: u64, key: u64) -> bool
+    ensures { λ r. ⌜ r ≡ any (λ p. eqb (keyIn false p) key) (reached occupied (now (pairs .entry))) ⌝ }
+{
+    let n = least(reach(occupied), pairs.len());
+    let mut found = false;
+    let mut i: usize = 0;
+    while i < n {
+        if own_in(pairs[i]) == key {
+            found = true;
+        }
+        i += 1;
+    }
+    found
+}
+
+// The discriminator is there in the label's party. Whose it is, is asked only where it is there.
+fn has_own(pairs: &[u64], occupied: u64, label: u32, discriminator: u32) -> bool
+    ensures { λ r. ⌜ r ≡ any (λ p. eqb (keyIn false p) (ownKey label discriminator)) (reached occupied (now (pairs .entry))) ⌝ }
+{
+    if has_discriminator(pairs, occupied, discriminator) {
+        return has_key(pairs, occupied, own_key(label, discriminator));
+    }
+    false
+}
+
 // The label was found, or the discriminator is there in its party. Only an opening asks for one.
-pub fn rival_in(pairs: &[u64], place: usize, label: u32, discriminator: u32) -> bool
-    ensures { λ r. ⌜ r ≡ rivalIn (now (pairs .entry)) place label discriminator ⌝ }
+pub fn rival_in(pairs: &[u64], occupied: u64, place: usize, label: u32, discriminator: u32) -> bool
+    ensures { λ r. ⌜ r ≡ rivalIn (now (pairs .entry)) occupied place label discriminator ⌝ }
 {
     if place < pairs.len() {
         return true;
@@ -200,5 +211,5 @@ pub fn rival_in(pairs: &[u64], place: usize, label: u32, discriminator: u32) -> 
     if discriminator == 0 {
         return false;
     }
-    has_own(pairs, label, discriminator)
+    has_own(pairs, occupied, label, discriminator)
 }
