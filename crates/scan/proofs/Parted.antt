@@ -6,7 +6,6 @@ use mathlib.Core.Path.{_≡_, refl, sym, ap, _∙_}
 use mathlib.Core.Bool.{Bool, true, false, _&&_}
 use mathlib.Core.List.{List}
 use lib.ListN.{length}
-use lib.Seq.{take-all}
 use lib.Dec.{eqb, ltb, leb}
 use borrow.Author.Tests.{ltb-true, le-leb, ne-eqb}
 use Rattle.rules.specs.Parties.{theirFirst, partyOf, ownMost}
@@ -20,7 +19,7 @@ use Rattle.table.proofs.Rows.{count-opens}
 use Rattle.table.proofs.Shares.{heldBy}
 use Rattle.scan.specs.declared.Share.{Share}
 use Rattle.scan.specs.Passing.{ownCount, shareIn}
-use Rattle.scan.proofs.RowPairs.{pairsOf, length-pairs, unsoundAt, pairs-theirs}
+use Rattle.scan.proofs.RowPairs.{pairsOf, unsoundAt, pairs-theirs}
 
 module _ (clock set : ℕ) (row : List Session) (n : length row ≡ 64) (all : any (unsoundAt clock) (opens set row) ≡ false) where
   abbrev openCount : ℕ
@@ -51,4 +50,4 @@ module _ (clock set : ℕ) (row : List Session) (n : length row ≡ 64) (all : a
       let ours : openCount - heldOf 1 ≡ heldOf 0 = omega (arith, sum) in
       let own : eqb (ownCount label (heldOf 0) (heldOf 1)) ownMost ≡ eqb (heldOf (partyOf label)) ownMost =
       split (ltb label theirFirst) (λ o. rw o) (λ o. rw o) in
-      rw (e, take-all 64 (pairsOf set row) (omega (arith, length-pairs set row, n)), pairs-theirs clock set row all, ours, own))
+      rw (e, pairs-theirs clock set row all, ours, own))

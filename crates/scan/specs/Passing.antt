@@ -3,7 +3,7 @@
 use Prim.Native.Nat.{ℕ, suc, _-_, _/_}
 use mathlib.Core.Bool.{Bool, true, false, cond, _&&_, _||_}
 use mathlib.Core.List.{List, [], _∷_}
-use lib.ListN.{length, set, take, replicate}
+use lib.ListN.{length, set, replicate}
 use lib.Dec.{eqb, ltb, leb}
 use Rattle.rules.specs.Parties.{isOf, ownMost}
 use Rattle.session.specs.declared.Session.{Session}
@@ -92,7 +92,7 @@ sharedOf label all theirs =
 unfoldable pub shareIn : List ℕ → ℕ → ℕ → Share
 shareIn pairs occupied label =
     let all = occupiedOf 64 occupied in
-    cond (ltb all ownMost) (record { kept = true; full = false }) (sharedOf label all (theirsOf (take 64 pairs)))
+    cond (ltb all ownMost) (record { kept = true; full = false }) (sharedOf label all (theirsOf pairs))
 
 unfoldable pub judgedOf : List ℕ → Progress → Summary
 judgedOf pairs s =

@@ -8,6 +8,7 @@ ghost use mathlib.Core.Bool.{true, false, _&&_};
 ghost use lib.Dec.{eqb};
 ghost use lib.ListN.{take};
 ghost use Prim.Native.Nat.{_/_};
+ghost use Rattle.rules.specs.Parties.{partyOf};
 ghost use Rattle.rules.specs.Lists.{any};
 ghost use Rattle.scan.specs.Distinct.{keyPair, ownKey, keyIn, alike, keyStands, reachOf, reached, distinctIn, placeIn, rivalIn, theirsOf};
 
@@ -127,17 +128,21 @@ pub fn distinct(pairs: &[u64], occupied: u64) -> bool
     true
 }
 
-// How many labels are theirs, of the first 64 pairs: behind the last occupied place there is none.
-pub fn theirs_in(pairs: &[u64]) -> u32
-    ensures { λ r. ⌜ r ≡ theirsOf (take 64 (now (pairs .entry))) ⌝ }
+// 1 for a label that is theirs: by a carry into the 33rd bit, so that labels are counted two at a time.
+fn theirs_one(label: u32) -> u64
+    ensures { λ r. ⌜ r ≡ partyOf label ⌝ }
 {
-    let n = least(64, pairs.len());
-    let mut theirs: u32 = 0;
+    (label as u64 + 4_294_467_296) / 4_294_967_296
+}
+
+// How many labels are theirs. All pairs are looked at: behind the last occupied place there is none.
+pub fn theirs_in(pairs: &[u64]) -> u64
+    ensures { λ r. ⌜ r ≡ theirsOf (now (pairs .entry)) ⌝ }
+{
+    let mut theirs: u64 = 0;
     let mut i: usize = 0;
-    while i < n {
-        if rules::party_of(label_in(pairs[i])) == 1 {
-            theirs += 1;
-        }
+    while i < pairs.len() {
+        theirs += theirs_one(label_in(pairs[i]));
         i += 1;
     }
     theirs

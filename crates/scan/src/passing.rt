@@ -98,7 +98,7 @@ fn apart_by(pairs: &[u64], occupied: u64) -> bool
 }
 
 // The party of the label has opened all that it may.
-fn is_full(label: u32, ours: u32, theirs: u32) -> bool
+fn is_full(label: u32, ours: u64, theirs: u64) -> bool
     ensures { λ r. ⌜ r ≡ eqb (ownCount label ours theirs) 32 ⌝ }
 {
     if rules::party_of(label) == 0 {
@@ -107,7 +107,7 @@ fn is_full(label: u32, ours: u32, theirs: u32) -> bool
     theirs == 32
 }
 
-fn ours_of(all: u32, theirs: u32) -> u32
+fn ours_of(all: u64, theirs: u64) -> u64
     ensures { λ r. ⌜ r ≡ all - theirs ⌝ }
 {
     if all < theirs {
@@ -128,7 +128,7 @@ fn share_by(pairs: &[u64], occupied: u64, label: u32) -> Share
         };
     }
     let theirs = theirs_in(pairs);
-    let ours = ours_of(open, theirs);
+    let ours = ours_of(open as u64, theirs);
     let kept = both(ours <= 32, theirs <= 32);
     let full = is_full(label, ours, theirs);
     Share {

@@ -1,5 +1,6 @@
 -- `scan::share_by` meets its contract.
 -- Assumes nothing.
+use native.Mathlib.Omega.{arith}
 use borrow.Author.Needs.{needs}
 use borrow.Author.Tests.{lt-ltb, le-ltb}
 use Rattle.scan.specs.Passing.{shareIn}
@@ -14,6 +15,7 @@ share-by-spec =
     (λ c κs. search needs)
     (λ c. rw (← c .before .open-count .ensures, lt-ltb (c .before .open-count .result) 32 (c .if1 .taken)))
     (λ c κs. search needs)
+    (λ c. omega arith)
     (λ c κs. search needs)
     (λ c κs. search needs)
     (λ c κs. search needs)
