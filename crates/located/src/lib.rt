@@ -1,5 +1,7 @@
 // A file read from a place on, as far as a lent buffer reaches.
 use libc::SEEK_END;
+ghost use mathlib.Core.Path.{_≡_};
+ghost use Rattle.located.specs.Turns.{readBehind, failedBehind};
 
 // How many octets were read, and whether a read failed.
 pub struct Got {
@@ -34,23 +36,34 @@ struct Turn {
     failed: bool,
 }
 
-// What one read answered. None is the file's end; one that failed is told of, and nothing is read
-// behind it.
-fn after_read(name: &[u8], size: usize, got: isize, buf: &[u8]) -> Turn {
-    if got < 0 {
-        let again = syscall::is_again(name, false, os::errno(), 0);
-        return Turn {
-            size: size,
-            go: again,
-            failed: !again,
-        };
-    }
-    let n = io::count(got, buf);
+// So many octets more, and not past the buffer's end; none is the end of the file.
+fn read_behind(size: usize, n: usize, room: usize) -> Turn
+    ensures { λ r. ⌜ r ≡ readBehind size n room ⌝ }
+{
     Turn {
-        size: pump::advance(size, n, buf.len()),
+        size: pump::advance(size, n, room),
         go: n > 0,
         failed: false,
     }
+}
+
+// A read that failed, which is made again or is the last.
+fn failed_behind(size: usize, again: bool) -> Turn
+    ensures { λ r. ⌜ r ≡ failedBehind size again ⌝ }
+{
+    Turn {
+        size: size,
+        go: again,
+        failed: !again,
+    }
+}
+
+// What one read answered. One that failed is told of, and nothing is read behind it.
+fn after_read(name: &[u8], size: usize, got: isize, buf: &[u8]) -> Turn {
+    if got < 0 {
+        return failed_behind(size, syscall::is_again(name, false, os::errno(), 0));
+    }
+    read_behind(size, io::count(got, buf), buf.len())
 }
 
 // One read, behind the octets that are there.
