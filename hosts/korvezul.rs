@@ -4,8 +4,8 @@
 use std::mem::{align_of, offset_of, size_of};
 
 pub const RECORDS: usize = 64;
-/// The version of the header that these declarations follow, 6.0.0.
-pub const VERSION: u32 = 0x060000;
+/// The version of the header that these declarations follow, 7.0.0.
+pub const VERSION: u32 = 0x070000;
 /// The two operators of a row, how many sessions each may have open, and the first label that is theirs.
 pub const OURS: u32 = 0;
 pub const THEIRS: u32 = 1;
@@ -132,6 +132,19 @@ pub struct Peer {
     pub owed: u8,
 }
 
+/// The dual-homing group of a service PW, in its record.
+#[repr(C)]
+#[derive(Clone, Copy, Debug, Default, PartialEq)]
+pub struct Group {
+    pub id: u32,
+    pub peer: u32,
+    pub dni: u32,
+    pub set: u8,
+    pub role: u8,
+    pub pw: u8,
+    pub ac: u8,
+}
+
 #[repr(C)]
 #[derive(Clone, Copy, Debug, Default, PartialEq)]
 pub struct Session {
@@ -142,6 +155,7 @@ pub struct Session {
     pub peer: Peer,
     pub state: u8,
     pub crossing: u8,
+    pub group: Group,
 }
 
 #[repr(C)]
@@ -304,7 +318,8 @@ pub struct Logged {
 
 // The layout that the library was compiled with.
 const _: () = {
-    assert!(size_of::<Session>() == 272 && align_of::<Session>() == 8 && offset_of!(Session, settings) == 144);
+    assert!(size_of::<Session>() == 288 && align_of::<Session>() == 8 && offset_of!(Session, settings) == 144);
+    assert!(size_of::<Group>() == 16 && offset_of!(Group, ac) == 15 && offset_of!(Session, group) == 268);
     assert!(offset_of!(Session, peer) == 256 && offset_of!(Session, state) == 264 && size_of::<Settings>() == 112);
     assert!(offset_of!(Settings, expected) == 48 && offset_of!(Settings, label) == 96 && size_of::<MepId>() == 48);
     assert!(offset_of!(Settings, follow_link) == 108 && offset_of!(Settings, mode) == 110);
@@ -538,6 +553,7 @@ pub fn answer_name(answer: u32) -> &'static str {
         16 => "entry past its holder's end",
         17 => "entry of a wrong length",
         18 => "needed entry missing or twice",
+        24 => "no group takes the DHC message",
         25 => "DHC message wrong",
         26 => "not a table",
         _ => "unknown",

@@ -145,6 +145,13 @@ fn spoil(t: &mut Table, words: &str) -> Result<(), String> {
         "state" => record.state = number(value)?,
         "multiplier" => record.peer.multiplier = number(value)?,
         "timed" => record.timed = number(value)?,
+        "group" => record.group.set = number(value)?,
+        "group-id" => record.group.id = number(value)?,
+        "group-role" => record.group.role = number(value)?,
+        "group-peer" => record.group.peer = number(value)?,
+        "group-dni" => record.group.dni = number(value)?,
+        "group-pw" => record.group.pw = number(value)?,
+        "group-ac" => record.group.ac = number(value)?,
         _ => return Err(format!("no such field: {field}")),
     }
     Ok(())

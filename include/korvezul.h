@@ -37,12 +37,12 @@
 extern "C" {
 #endif
 
-/* The version of this header: 0x060000 is 6.0.0. korvezul_version() is the archive's; another major
+/* The version of this header: 0x070000 is 7.0.0. korvezul_version() is the archive's; another major
  * number is another layout or another meaning, and the two must agree in it. 5: the settings have a mode,
  * in an octet that was nobody's before; 5.1: configurations are read and written; 5.2: records of a log
  * are written; 6: every call but a tick names its party, and a party has 32 sessions; DHC messages are read
- * and written. */
-#define KORVEZUL_VERSION_MAJOR 6
+ * and written; 7: a record has room for a dual-homing group, and a DHC message that is received is no 5. */
+#define KORVEZUL_VERSION_MAJOR 7
 #define KORVEZUL_VERSION_MINOR 0
 #define KORVEZUL_VERSION_PATCH 0
 #define KORVEZUL_VERSION \
@@ -74,7 +74,7 @@ enum korvezul_answer {
     KORVEZUL_NO_SESSION = 2,  /* no open session has this label, or it is not the caller's */
     KORVEZUL_SHORT = 3,       /* the message is shorter than its layout needs */
     KORVEZUL_HEADER = 4,      /* its first nibble is not 1, or its G-ACh version not 0 */
-    KORVEZUL_CHANNEL = 5,     /* its channel is not CC, CV or fault (a reader of one kind: not that one) */
+    KORVEZUL_CHANNEL = 5,     /* its channel is not CC, CV, fault or DHC (a reader of one kind: not that one) */
     KORVEZUL_BFD = 6,         /* a BFD reception rule is broken */
     KORVEZUL_MEP_ID = 7,      /* the MEP-ID's type is above 2, or its length or AGI length does not fit */
     KORVEZUL_FAULT = 8,       /* a field or a TLV of a fault message is wrong */
@@ -89,9 +89,11 @@ enum korvezul_answer {
     KORVEZUL_PAST = 16,       /* an entry of a configuration, padding included, past its holder's end */
     KORVEZUL_LENGTH = 17,     /* a known entry whose length its layout does not allow */
     KORVEZUL_NEEDED = 18,     /* a needed entry missing or twice */
+    KORVEZUL_NO_GROUP = 24,   /* a DHC message that no group takes */
     KORVEZUL_DHC = 25,        /* a TLV of a DHC message past the total, of a wrong length or twice, or neither */
     KORVEZUL_TABLE = 26       /* not 64 records, or open records that no call can have left: one out of range, two
-                                 of one label, two of one party and discriminator, over 32 of a party */
+                                 of one label, two of one party and discriminator, over 32 of a party, two
+                                 groups of one party and ID */
 };
 
 enum korvezul_state {
@@ -223,6 +225,19 @@ struct korvezul_peer {
     uint8_t owed;
 };
 
+/* The dual-homing group of a service PW, in its record: the Dual-Homing Group ID, the peer's Node_ID and the
+ * label of the DNI-PW; `set` is 1 where there is a group; `role` is 0 for the working PE and 1 for the protection
+ * PE; `pw` and `ac` are 0 standby, 1 active. */
+struct korvezul_group {
+    uint32_t id;
+    uint32_t peer;
+    uint32_t dni;
+    uint8_t set;
+    uint8_t role;
+    uint8_t pw;
+    uint8_t ac;
+};
+
 struct korvezul_session {
     uint64_t timed;
     uint64_t crossed;
@@ -231,6 +246,7 @@ struct korvezul_session {
     struct korvezul_peer peer;
     uint8_t state;
     uint8_t crossing;
+    struct korvezul_group group;
 };
 
 /* What is lent beside a row. Bit i of `occupied` is set while record i is an open session. */
@@ -599,7 +615,17 @@ KORVEZUL_PLACE(peer, multiplier, 4);
 KORVEZUL_PLACE(peer, diagnostic, 5);
 KORVEZUL_PLACE(peer, owed, 6);
 
-KORVEZUL_SIZE(session, 272);
+KORVEZUL_SIZE(group, 16);
+KORVEZUL_ALIGNED(group, 4);
+KORVEZUL_PLACE(group, id, 0);
+KORVEZUL_PLACE(group, peer, 4);
+KORVEZUL_PLACE(group, dni, 8);
+KORVEZUL_PLACE(group, set, 12);
+KORVEZUL_PLACE(group, role, 13);
+KORVEZUL_PLACE(group, pw, 14);
+KORVEZUL_PLACE(group, ac, 15);
+
+KORVEZUL_SIZE(session, 288);
 KORVEZUL_ALIGNED(session, 8);
 KORVEZUL_PLACE(session, timed, 0);
 KORVEZUL_PLACE(session, crossed, 8);
@@ -608,6 +634,7 @@ KORVEZUL_PLACE(session, settings, 144);
 KORVEZUL_PLACE(session, peer, 256);
 KORVEZUL_PLACE(session, state, 264);
 KORVEZUL_PLACE(session, crossing, 265);
+KORVEZUL_PLACE(session, group, 268);
 
 KORVEZUL_SIZE(head, 16);
 KORVEZUL_ALIGNED(head, 8);

@@ -164,9 +164,9 @@ module _ {h : History} {l : ℕ} {r : Session} {m : Marks} {kept : List ℕ} (a 
           places = rw p4 (four-kept still-key (T .places));
         }
 
-  pub traced-lock : (t : ℕ) → Traced (after h (On l (Lock t)) a) l (Steps.lockedBy r) m kept
-  unfolding Steps.lockedBy
-  traced-lock t = traced-quiet (Lock t) (λ A f. refl) refl (Steps.lockedBy r) refl refl refl refl
+  pub traced-lock : (t : ℕ) → Traced (after h (On l (Lock t)) a) l (Steps.lockedAt r t) m kept
+  unfolding Steps.lockedAt
+  traced-lock t = traced-quiet (Lock t) (λ A f. refl) refl (Steps.lockedAt r t) refl refl refl refl
 
   pub traced-report : Traced (after h (On l ReportOn) a) l r m kept
   traced-report = traced-quiet ReportOn (λ A f. refl) refl r refl refl refl refl

@@ -83,7 +83,7 @@ module _ (t : Table) where
   unfolding actAnswer actDone
   act-other l k n (Close u) y =
       let r = found-passed (t .clock) u (find k (openOf t)) (eqb-true _ 0 y) .1 in closed-other l k u (r .0) (r .1) n
-  act-other l k n (Lock u) y = altered-other l k u Steps.lockedBy (λ r. unfold Steps.lockedBy in refl) n
+  act-other l k n (Lock u) y = altered-other l k u (λ r. Steps.lockedAt r u) (λ r. unfold Steps.lockedAt in refl) n
   act-other l k n (Unlock u) y = altered-other l k u (λ r. Steps.unlockedAt r u) (λ r. unfold Steps.unlockedAt in refl) n
   act-other l k n (Receive m u) y = altered-other l k u (receiving m u) (received-settings m u) n
   act-other l k n ReportOn y = refl
@@ -127,7 +127,8 @@ module _ (h : History) (l : ℕ) (t : Table) (m : Marks) (kept : List ℕ) (S : 
   unfolding actDone
   act-own (Close u) z q e = absurd (gone u z q e)
   act-own (Lock u) z q e =
-      touched Steps.lockedBy (Lock u) (λ r s w F R. traced-lock a s w y R u) q (sym (altered-own t l u Steps.lockedBy (λ r. unfold Steps.lockedBy in refl)) ∙ e)
+      touched (λ r. Steps.lockedAt r u) (Lock u) (λ r s w F R. traced-lock a s w y R u) q
+      (sym (altered-own t l u (λ r. Steps.lockedAt r u) (λ r. unfold Steps.lockedAt in refl)) ∙ e)
   act-own (Unlock u) z q e =
       touched (λ r. Steps.unlockedAt r u) (Unlock u) (λ r s w F R. traced-unlock a s w y R u (same-locked F)) q
       (sym (altered-own t l u (λ r. Steps.unlockedAt r u) (λ r. unfold Steps.unlockedAt in refl)) ∙ e)

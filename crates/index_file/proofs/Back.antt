@@ -1,7 +1,7 @@
--- What is written into an index file reads back: its head, and each entry with its record.
+-- What is written into an index file reads back: its head, and each entry with its record, which has no group.
 -- Assumes nothing.
 use Prim.Native.Nat.{ℕ, _^_, _<_}
-use mathlib.Core.Path.{_≡_}
+use mathlib.Core.Path.{_≡_, sym}
 use mathlib.Core.List.{List, _∷_}
 use Rattle.octets.specs.Numbers.{octetsOf}
 use Rattle.octets.proofs.Numbers.{read-of}
@@ -13,6 +13,7 @@ use Rattle.conditions.specs.declared.Condition.{Condition}
 use Rattle.conditions.specs.declared.Conditions.{Conditions}
 use Rattle.session.specs.declared.Peer.{Peer}
 use Rattle.session.specs.declared.Session.{Session}
+use Rattle.own.proofs.Ungrouped.{Ungrouped}
 use Rattle.indexing.specs.declared.IndexHead.{IndexHead}
 use Rattle.index_file.specs.declared.Entry.{Entry}
 use Rattle.index_file.specs.Octets.{keyOctets, conditionOctets, conditionsOctets, agiOctets, mepOctets, settingsOctets, peerOctets, sessionOctets, entryOctets, headOctets, keyIn, conditionIn, conditionsIn, agiIn, mepIn, settingsIn, peerIn, sessionIn, entryIn, headIn}
@@ -139,9 +140,9 @@ peer-back p rest h =
     let remote = read-of 4 (p .remote) (p .multiplier ∷ p .diagnostic ∷ p .owed ∷ rest) h in
     λ i. record { remote = remote i; multiplier = p .multiplier; diagnostic = p .diagnostic; owed = p .owed }
 
-session-back : (s : Session) (rest : List ℕ) → SessionInRange s → sessionIn (sessionOctets s rest) ≡ s
+session-back : (s : Session) (rest : List ℕ) → SessionInRange s → Ungrouped s → sessionIn (sessionOctets s rest) ≡ s
 unfolding sessionIn
-session-back s rest h =
+session-back s rest h none =
     let ends = s .state ∷ s .crossing ∷ rest in
     let late = settingsOctets (s .settings) (peerOctets (s .peer) ends) in
     let peer = peer-back (s .peer) ends (h .remote) in
@@ -157,13 +158,14 @@ session-back s rest h =
       peer = peer i;
       state = s .state;
       crossing = s .crossing;
+      group = sym none i;
     }
 
--- an entry, whatever stands behind it
-pub entry-back : (e : Entry) (rest : List ℕ) → EntryInRange e → entryIn (entryOctets e rest) ≡ e
+-- an entry whose record has no group, whatever stands behind it
+pub entry-back : (e : Entry) (rest : List ℕ) → EntryInRange e → Ungrouped (e .session) → entryIn (entryOctets e rest) ≡ e
 unfolding entryIn
-entry-back e rest h =
-    let session = session-back (e .session) rest (h .session) in
+entry-back e rest h none =
+    let session = session-back (e .session) rest (h .session) none in
     let place = read-of 8 (e .place) (sessionOctets (e .session) rest) (h .place) in
     let clock = read-of 8 (e .clock) (octetsOf 8 (e .place) (sessionOctets (e .session) rest)) (h .clock) in
     λ i. record { clock = clock i; place = place i; session = session i }

@@ -13,10 +13,12 @@ use borrow.Author.Tests.{eq-eqb, ne-eqb, le-ltb, le-leb}
 use Rattle.octets.specs.Numbers.{numberAt}
 use Rattle.rules.specs.Times.{latest}
 use Rattle.session.specs.declared.Session.{Session}
+use Rattle.own.proofs.Ungrouped.{absent-ungrouped}
 use Rattle.log.specs.declared.Answer.{Answer}
 use Rattle.log.specs.Records.{headerFits}
-use Rattle.log.specs.Reading.{countOf}
+use Rattle.log.specs.Reading.{never, atStart, countOf}
 use Rattle.log.specs.Entries.{entryPoint, entryPlace}
+use Rattle.log.proofs.Turns.{read-ungrouped}
 use Rattle.log.proofs.Runs.{reported}
 use Rattle.log.proofs.Asking.{OurLog, frontOf}
 use Rattle.indexing.specs.declared.IndexHead.{IndexHead}
@@ -89,7 +91,8 @@ module _ (log : List ℕ) (l c : ℕ) (out : List ℕ) (few : c ≤ 256) (room :
       ∙ ap (take 252) (drop-sets (headOctets head []) put 0 q (omega arith)) ∙ put-there log l c 0 k out (omega arith) (omega arith) (omega arith) room in
       let s = drop q fileOf in
       let all : s ≡ entryOctets (entryFor (entryBefore log l k)) (drop 252 s) = sym (take-append-drop 252 s) ∙ ap (λ (x : List ℕ). x ++ drop 252 s) e in
-      ap (λ (n : ℕ). entryIn (drop n fileOf)) p ∙ ap entryIn all ∙ entry-back (entryFor (entryBefore log l k)) (drop 252 s) ranges
+      let none = read-ungrouped l never (256 * k) (drop 8 log) atStart absent-ungrouped in
+      ap (λ (n : ℕ). entryIn (drop n fileOf)) p ∙ ap entryIn all ∙ entry-back (entryFor (entryBefore log l k)) (drop 252 s) ranges none
 
 -- it is what the blocks and the head leave of a log that is counted with 0
 pub file-written : (log : List ℕ) (l w : ℕ) (out : List ℕ) → 8 ≤ w → length log ≤ 18446744073709551615 → countOf log .answer ≡ 0

@@ -1,4 +1,5 @@
--- The octets of an index file: a head of 24 octets, and an entry of 252. The fields of a record stand in the order in which it is declared. Each part is written before the octets of rest.
+-- The octets of an index file: a head of 24 octets, and an entry of 252. The fields of a record stand in the order in which it is declared. Its group has no octets: a log
+-- has no call on a group, and leaves no record that has one. Each part is written before the octets of rest.
 -- Assumes nothing.
 use Prim.Native.Nat.{ℕ}
 use mathlib.Core.List.{List, _∷_}
@@ -8,6 +9,7 @@ use Rattle.cv.specs.declared.Agi.{Agi}
 use Rattle.cv.specs.declared.MepId.{MepId}
 use Rattle.rules.specs.declared.Key.{Key}
 use Rattle.rules.specs.declared.Settings.{Settings}
+use Rattle.homing.specs.Groups.{noGroup}
 use Rattle.conditions.specs.declared.Condition.{Condition}
 use Rattle.conditions.specs.declared.Conditions.{Conditions}
 use Rattle.session.specs.declared.Peer.{Peer}
@@ -116,6 +118,7 @@ sessionIn s =
       peer = peerIn (drop 227 s);
       state = getD s 234 0;
       crossing = getD s 235 0;
+      group = noGroup;
     }
 
 unfoldable pub entryIn : List ℕ → Entry

@@ -3,7 +3,8 @@
 //
 // A head of 24 octets: the mark `TPX`, 16-bit version 1, three zero bytes, the octets of the log, the
 // label, and the number of entries. Then the entries, 252 octets each: the clock, the place of the next
-// record in the log, and the label's record, field by field. Numbers are big-endian.
+// record in the log, and the label's record, field by field but its group: a log leaves no record that
+// has one. Numbers are big-endian.
 mod blocks;
 mod reading;
 mod seeking;

@@ -103,6 +103,7 @@ fn peer_in(s: &[u8]) -> Peer
     }
 }
 
+// A log leaves no record with a group, and so an entry has no octets for one.
 fn session_in(s: &[u8]) -> Session
     ensures { λ r. ⌜ r ≡ sessionIn (now (s .entry)) ⌝ }
 {
@@ -114,6 +115,7 @@ fn session_in(s: &[u8]) -> Session
         peer: peer_in(from_place(s, 227)),
         state: get_u8(s, 234),
         crossing: get_u8(s, 235),
+        group: homing::no_group(),
     }
 }
 

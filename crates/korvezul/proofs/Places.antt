@@ -13,6 +13,7 @@ use Rattle.rules.proofs.Key.Laws.{mir as key}
 use Rattle.rules.proofs.Circuit.Laws.{mir as circuit}
 use Rattle.conditions.proofs.Condition.Laws.{mir as condition}
 use Rattle.conditions.proofs.Conditions.Laws.{mir as conditions}
+use Rattle.homing.proofs.Group.Laws.{mir as group}
 use Rattle.session.proofs.Peer.Laws.{mir as peer}
 use Rattle.session.proofs.Session.Laws.{mir as session}
 use Rattle.table.proofs.Head.Laws.{mir as head}
@@ -76,8 +77,11 @@ conditions-laid = record { octets = refl; aligned = refl; fields = (refl, (refl,
 pub peer-laid : Laid peer 8 4 (0 ∷ 4 ∷ 5 ∷ 6 ∷ [])
 peer-laid = record { octets = refl; aligned = refl; fields = (refl, (refl, (refl, (refl, refl)))) }
 
-pub session-laid : Laid session 272 8 (0 ∷ 8 ∷ 16 ∷ 144 ∷ 256 ∷ 264 ∷ 265 ∷ [])
-session-laid = record { octets = refl; aligned = refl; fields = (refl, (refl, (refl, (refl, (refl, (refl, (refl, refl))))))) }
+pub group-laid : Laid group 16 4 (0 ∷ 4 ∷ 8 ∷ 12 ∷ 13 ∷ 14 ∷ 15 ∷ [])
+group-laid = record { octets = refl; aligned = refl; fields = (refl, (refl, (refl, (refl, (refl, (refl, (refl, refl))))))) }
+
+pub session-laid : Laid session 288 8 (0 ∷ 8 ∷ 16 ∷ 144 ∷ 256 ∷ 264 ∷ 265 ∷ 268 ∷ [])
+session-laid = record { octets = refl; aligned = refl; fields = (refl, (refl, (refl, (refl, (refl, (refl, (refl, (refl, refl)))))))) }
 
 pub head-laid : Laid head 16 8 (0 ∷ 8 ∷ [])
 head-laid = record { octets = refl; aligned = refl; fields = (refl, (refl, refl)) }

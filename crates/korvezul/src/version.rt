@@ -2,10 +2,10 @@
 ghost use mathlib.Core.Path.{_≡_};
 ghost use Rattle.korvezul.specs.Version.{version};
 
-// 6.0.0: each call but a tick names its party.
+// 7.0.0: a record has room for a dual-homing group.
 #[no_mangle]
 pub extern "C" fn korvezul_version() -> u32
     ensures { λ r. ⌜ r ≡ version ⌝ }
 {
-    393216
+    458752
 }

@@ -8,14 +8,15 @@ use mathlib.Core.Bool.{Bool, true, false, cond, not, _&&_}
 use mathlib.Core.List.{List}
 use lib.ListN.{length, take, drop, length-drop}
 use lib.Seq.{take-all}
-use lib.Dec.{ltb, leb}
+use lib.Dec.{eqb, ltb, leb}
 use borrow.Author.Tests.{ltb-true, leb-true, not-true}
 use Rattle.octets.proofs.Chain.{and-both}
 use Rattle.rules.proofs.Bools.{split}
 use Rattle.capture.specs.Records.{recordIn}
+use Rattle.own.proofs.Ungrouped.{Ungrouped, record-ungrouped}
 use Rattle.log.specs.declared.Point.{Point}
 use Rattle.log.specs.declared.Ended.{Ended}
-use Rattle.log.specs.Records.{answerIn, sizeIn, isWhole, behind}
+use Rattle.log.specs.Records.{answerIn, bodyIn, sizeIn, isWhole, behind}
 use Rattle.log.specs.Reading.{laterOf, followed, moreOf, endedAt, readTo}
 
 -- a record that is gone through is one of those to read, and whole
@@ -67,6 +68,22 @@ module _ (l u : ℕ) where
   unfolding readTo
   turns zero s p e = absurd (omega (arith, more-left u 0 s e))
   turns (suc n) s p e = rw (e, sub-one (suc n))
+
+  -- no record of a log gives the label's record a group
+  followed-ungrouped : (s : List ℕ) (p : Point) → Ungrouped (p .session) → Ungrouped (followed l s p .session)
+  unfolding followed
+  followed-ungrouped s p none =
+      split (eqb (answerIn s) 0)
+      (λ e. rw e (record-ungrouped (p .session) none (recordIn s) (bodyIn s (recordIn s .size)) l))
+      (λ e. rw e none)
+
+  pub read-ungrouped : (n : ℕ) (s : List ℕ) (p : Point) → Ungrouped (p .session) → Ungrouped (readTo n l u s p .point .session)
+  unfolding readTo
+  read-ungrouped zero s p none = none
+  read-ungrouped (suc n) s p none =
+      split (moreOf u (suc n) s)
+      (λ e. rw e (read-ungrouped n (behind s) (followed l s p) (followed-ungrouped s p none)))
+      (λ e. rw e none)
 
 -- what is left of the octets, as the code takes it
 part : (xs : List ℕ) (n : ℕ) → take (length xs - n) (drop n xs) ≡ drop n xs

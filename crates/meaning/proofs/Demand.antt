@@ -19,7 +19,7 @@ use Rattle.rules.proofs.TwoParties.{same-own}
 use Rattle.session.specs.declared.Session.{Session}
 use Rattle.session.specs.Soundness.{sessionSound}
 use Rattle.table.specs.Places.{opens}
-use Rattle.table.specs.Table.{Table, openOf, sameLabel, sameDiscriminator, openBy, every, find, asked, answer, next, emptied}
+use Rattle.table.specs.Table.{Table, openOf, sameLabel, sameDiscriminator, sameGroup, openBy, every, find, asked, answer, next, emptied}
 use Rattle.table.proofs.Rows.{found-is}
 use Rattle.table.proofs.Shares.{heldBy}
 use Rattle.meaning.specs.Stories.{Story, settingsOf}
@@ -77,6 +77,7 @@ in-step-start row e =
         labels = ap (once sameLabel) none′;
         discriminators = ap (once sameDiscriminator) none′;
         each = λ p. let nothing : openBy p (emptied row) ≡ 0 = ap (λ (rs : List Session). length (only (heldBy p) rs)) none′ in omega (arith, nothing);
+        groups = ap (once sameGroup) none′;
       };
       fit = λ l. subst (λ (o : Option Session). Fit 0 o none) (sym (ap (find l) none′)) tt;
       counted = λ p. ap (λ (rs : List Session). length (only (heldBy p) rs)) none′;

@@ -169,8 +169,8 @@ fits-opened g t e =
     }
 
 module _ {now : ℕ} (u : ℕ) {r : Session} {s : Story} (h : now ≤ u) (f : Fits now r s) where
-  pub fits-locked : Fits u (Steps.lockedBy r) (lock s u)
-  unfolding Steps.lockedBy settingsOf timedFrom multiplierOf remoteDiagnostic remoteOf owed state crossing crossingAt
+  pub fits-locked : Fits u (Steps.lockedAt r u) (lock s u)
+  unfolding Steps.lockedAt settingsOf timedFrom multiplierOf remoteDiagnostic remoteOf owed state crossing crossingAt
   fits-locked =
       record {
         settings = f .settings;

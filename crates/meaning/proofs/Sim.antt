@@ -359,8 +359,8 @@ module _ {now : ℕ} {st : ℕ → Option Story} {ls : List ℕ} {t : Table} (S 
       sim-closed S l u (p .1 .0) (in-time u (p .0)) (p .1 .1) (act-ordered t (S .ordered) l (Close u) e)
   act-done l (Lock u) e =
       let h = in-time u (found-passed (t .clock) u (find l (openOf t)) (eqb-true _ 0 e) .0) in
-      sim-altered S l u h Steps.lockedBy (act-ordered t (S .ordered) l (Lock u) e) (λ r. unfold Steps.lockedBy in refl) (more (λ s. lock s u)) (more-open (λ s. lock s u))
-      (fit-map u Steps.lockedBy (λ s. lock s u) (λ r s f. fits-locked u h f) (find l (openOf t)) (st l) (S .fit l))
+      sim-altered S l u h (λ r. Steps.lockedAt r u) (act-ordered t (S .ordered) l (Lock u) e) (λ r. unfold Steps.lockedAt in refl) (more (λ s. lock s u)) (more-open (λ s. lock s u))
+      (fit-map u (λ r. Steps.lockedAt r u) (λ s. lock s u) (λ r s f. fits-locked u h f) (find l (openOf t)) (st l) (S .fit l))
   act-done l (Unlock u) e =
       let h = in-time u (found-passed (t .clock) u (find l (openOf t)) (eqb-true _ 0 e) .0) in
       sim-altered S l u h (λ r. Steps.unlockedAt r u) (act-ordered t (S .ordered) l (Unlock u) e) (λ r. unfold Steps.unlockedAt in refl) (more (λ s. unlock s u)) (more-open (λ s. unlock s u))

@@ -1,4 +1,4 @@
--- No refusal of a message is above 8.
+-- No refusal of a message is above 25, and none of a message of the three kinds that a session takes above 8.
 -- Assumes nothing.
 use Prim.Native.Nat.{ℕ, _+_, _/_, _%_, _≤_}
 use native.Mathlib.Omega.{arith}
@@ -15,7 +15,9 @@ use Rattle.bfd.specs.Reception.{ruleRefusal, yourRefusal, controlRefusal, ccRef
 use Rattle.cv.specs.Forms.{lengthFits, agiFits, formRefusal, agiRefusal, mepRefusal}
 use Rattle.cv.specs.Cv.{mepAt, cvRefusal}
 use Rattle.fault.proofs.Bounds.{fault-most}
-use Rattle.message.specs.Message.{messageRefusal}
+use Rattle.coordination.specs.Message.{dhcChannel, dhcRefusal}
+use Rattle.coordination.proofs.Bounds.{dhc-most}
+use Rattle.message.specs.Message.{threeRefusal, unheardDhc, messageRefusal}
 
 rule-most : (version flags multiplier len my : ℕ) → ruleRefusal version flags multiplier len my ≤ 8
 unfolding ruleRefusal
@@ -70,8 +72,15 @@ kind-most m =
     (bar-most 8 (eqb (channelOf m) ccChannel) (omega arith)
     (bar-most 8 (eqb (channelOf m) cvChannel) (omega arith) (bar-most 8 (eqb (channelOf m) faultChannel) (omega arith) (omega arith))))
 
-pub message-most : (m : List ℕ) → messageRefusal m ≤ 8
-unfolding messageRefusal
-message-most m =
+unheard-most : (m : List ℕ) → unheardDhc m ≤ 25
+unfolding unheardDhc
+unheard-most m = need-most 25 (eqb (dhcRefusal m) 0) (dhc-most m) (omega arith)
+
+three-most : (m : List ℕ) → threeRefusal m ≤ 8
+three-most m =
     need-most 8 (eqb (kindRefusal (headerRefusal m) (channelOf m)) 0) (kind-most m)
     (bar-most 8 (eqb (channelOf m) ccChannel) (cc-most m) (bar-most 8 (eqb (channelOf m) cvChannel) (cv-most m) (fault-most m)))
+
+pub message-most : (m : List ℕ) → messageRefusal m ≤ 25
+unfolding messageRefusal
+message-most m = bar-most 25 (eqb (channelOf m) dhcChannel) (unheard-most m) (omega (arith, three-most m))

@@ -2,7 +2,7 @@
 -- Assumes nothing.
 use Prim.Native.Nat.{ℕ, _≤_}
 use native.Mathlib.Omega.{arith}
-use mathlib.Core.Path.{_≡_}
+use mathlib.Core.Path.{_≡_, sym, _∙_}
 use mathlib.Core.Bool.{Bool, true, false, cond}
 use mathlib.Core.List.{List}
 use lib.Dec.{eqb}
@@ -18,7 +18,8 @@ use Rattle.fault.specs.Message.{faultRefusal, faultOf, fieldsWith}
 use Rattle.fault.proofs.Says.{fault-says}
 use Rattle.message.specs.declared.Message.{Message}
 use Rattle.message.specs.declared.Message.the-variants.{ContinuityCheck, ConnectivityVerification, FaultManagement}
-use Rattle.message.specs.Message.{byChannel, messageRefusal, messageOf}
+use Rattle.message.specs.Message.{byChannel, threeRefusal, messageRefusal, messageOf}
+use Rattle.message.proofs.Dhc.{other-refused, dhc-refused}
 
 -- a multiplier, a diagnostic, a discriminator; a type and a refresh
 abbrev pub InRange : Message → Type 0
@@ -49,7 +50,8 @@ kind-in-range false true m e = tt
 kind-in-range false false m e = fault-in-range m e
 
 pub read-in-range : (m : List ℕ) → messageRefusal m ≡ 0 → InRange (messageOf m)
-unfolding messageRefusal messageOf
+unfolding messageOf
 read-in-range m e =
-    let a = orElse-passed (kindRefusal (headerRefusal m) (channelOf m)) (byChannel (channelOf m) (ccRefusal m) (cvRefusal m) (faultRefusal m)) e in
+    let three : threeRefusal m ≡ 0 = sym (other-refused m (λ dhc. dhc-refused m dhc e)) ∙ e in
+    let a = orElse-passed (kindRefusal (headerRefusal m) (channelOf m)) (byChannel (channelOf m) (ccRefusal m) (cvRefusal m) (faultRefusal m)) three in
     kind-in-range (eqb (channelOf m) ccChannel) (eqb (channelOf m) cvChannel) m (a .1)

@@ -17,7 +17,7 @@ use Rattle.rules.specs.Received.{receivedAs}
 use Rattle.rules.specs.Calls.{Act, Close, Lock, Unlock, Receive, ReportOn, WriteCc, WriteCv, Call, Tick, Open, On, isAccepted}
 use Rattle.rules.proofs.Bools.{split}
 use Rattle.session.specs.declared.Session.{Session}
-use Rattle.session.specs.Steps.{newSession, lockedBy, unlockedAt, replySettled}
+use Rattle.session.specs.Steps.{newSession, lockedAt, unlockedAt, replySettled}
 use Rattle.session.specs.Live.{receivedNumber, receivedRecord}
 use Rattle.session.specs.Soundness.{sessionSound}
 use Rattle.session.proofs.Sound.{sound-says}
@@ -77,7 +77,7 @@ module _ (r : Record) (body : List ℕ) (s : Session) where
   unfolding effectBy
   effect-acts taken two h =
       split (eqb (r .kind) 3)
-      (λ e. rw (two, e) (unfold lockedBy in rw h))
+      (λ e. rw (two, e) (unfold lockedAt in rw h))
       (λ three. split (eqb (r .kind) 4)
       (λ e. rw (two, three, e) (unfold unlockedAt in rw h))
       (λ four. split (eqb (r .kind) 5)

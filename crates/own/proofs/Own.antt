@@ -17,7 +17,7 @@ use Rattle.rules.proofs.Bools.{split}
 use Rattle.rules.proofs.Lists.{any-same, numbers-alike}
 use Rattle.rules.proofs.TwoParties.{party-most}
 use Rattle.session.specs.declared.Session.{Session}
-use Rattle.session.specs.Steps.{newSession, lockedBy, unlockedAt, replySettled}
+use Rattle.session.specs.Steps.{newSession, lockedAt, unlockedAt, replySettled}
 use Rattle.session.proofs.Received.{received-keeps}
 use Rattle.table.specs.Places.{hasLabel}
 use Rattle.table.specs.Table.{Table, openOf, sameLabel, inOrder, find, actAnswer, asked, answer, absent, altered, added, closed, receiving, actDone, done, next}
@@ -77,7 +77,7 @@ module _ (t : Table) (l : ℕ) where
     own-act m (Close u) e =
         let p = found-passed (t .clock) u (find m (openOf t)) (eqb-true _ 0 e) in
         own-closed m u (p .1 .0) (p .1 .1)
-    own-act m (Lock u) e = own-altered m u lockedBy (λ r. unfold lockedBy in refl)
+    own-act m (Lock u) e = own-altered m u (λ r. lockedAt r u) (λ r. unfold lockedAt in refl)
     own-act m (Unlock u) e = own-altered m u (λ r. unlockedAt r u) (λ r. unfold unlockedAt in refl)
     own-act m (Receive x u) e = own-altered m u (receiving x u) (λ r. received-keeps r u (receivedAs (r .settings) (messageOf x)))
     own-act m ReportOn e = both-same (eqb m l) own

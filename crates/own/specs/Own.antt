@@ -6,13 +6,13 @@ use mathlib.Core.Option.{Option, none, some, Option·map}
 use lib.Dec.{eqb}
 use Rattle.rules.specs.Calls.{Act, Close, Lock, Unlock, Receive, ReportOn, WriteCc, WriteCv, Call, Tick, Open, On}
 use Rattle.session.specs.declared.Session.{Session}
-use Rattle.session.specs.Steps.{newSession, lockedBy, unlockedAt, replySettled}
+use Rattle.session.specs.Steps.{newSession, lockedAt, unlockedAt, replySettled}
 use Rattle.table.specs.Table.{receiving}
 
 -- an act on the label itself
 abbrev pub ownAct : Act → Option Session → Option Session
 ownAct (Close u) o = none
-ownAct (Lock u) o = Option·map lockedBy o
+ownAct (Lock u) o = Option·map (λ r. lockedAt r u) o
 ownAct (Unlock u) o = Option·map (λ r. unlockedAt r u) o
 ownAct (Receive m u) o = Option·map (receiving m u) o
 ownAct ReportOn o = o

@@ -7,7 +7,7 @@ use mathlib.Core.Option.{Option, none, some}
 use mathlib.Core.List.{List}
 use lib.Dec.{eqb}
 use Rattle.session.specs.declared.Session.{Session}
-use Rattle.session.specs.Steps.{newSession, lockedBy, unlockedAt, replySettled}
+use Rattle.session.specs.Steps.{newSession, lockedAt, unlockedAt, replySettled}
 use Rattle.session.specs.Live.{receivedRecord}
 use Rattle.table.specs.Table.{absent}
 use Rattle.capture.specs.declared.Record.{Record}
@@ -20,7 +20,7 @@ heldIn s = cond (eqb (s .settings .label) 0) none (some s)
 -- an act on an open session, by its kind: 3 lock, 4 unlock, 5 receive, 7 write CC. A report and a write CV leave it
 unfoldable pub effectBy : Session → Record → List ℕ → Session
 effectBy s r body =
-    cond (eqb (r .kind) 3) (lockedBy s)
+    cond (eqb (r .kind) 3) (lockedAt s (r .time))
     (cond (eqb (r .kind) 4) (unlockedAt s (r .time))
     (cond (eqb (r .kind) 5) (receivedRecord s body (r .time))
     (cond (eqb (r .kind) 7) (replySettled s) s)))

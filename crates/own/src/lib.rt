@@ -25,7 +25,7 @@ fn effect_by(s: Session, r: Record, body: &[u8]) -> Session
     ensures { λ n. ⌜ n ≡ effectBy s r (now (body .entry)) ⌝ }
 {
     if r.kind == 3 {
-        return session::locked_by(s);
+        return session::locked_at(s, r.time);
     }
     if r.kind == 4 {
         return session::unlocked_at(s, r.time);

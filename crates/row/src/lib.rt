@@ -38,7 +38,7 @@ pub fn put_record(row: &mut [Session], place: usize, r: Session)
 }
 
 // The pass over the occupied places: each record by itself, its key pair noted at its place in a lent
-// run of numbers.
+// run of numbers, and the key of its group 64 places behind that.
 fn pass_over(row: &[Session], pairs: &mut [u64], from: Progress) -> Progress
     ensures { λ s. ⌜ record { progress = s; pairs = now (pairs .exit) } ≡ passOver 0 (record { progress = from; pairs = now (pairs .entry) }) (now (row .entry)) ⌝ }
 {
@@ -56,7 +56,7 @@ fn pass_over(row: &[Session], pairs: &mut [u64], from: Progress) -> Progress
 pub fn scan_row(row: &[Session], head: Head, target: Target) -> Summary
     ensures { λ s. ⌜ s ≡ summaryOf (now (row .entry)) head target ⌝ }
 {
-    let mut pairs = [0u64; 64];
-    let s = pass_over(row, &mut pairs, scan::start(row.len(), head, target));
-    scan::judged(&pairs, s)
+    let mut noted = [0u64; 128];
+    let s = pass_over(row, &mut noted, scan::start(row.len(), head, target));
+    scan::judged(&noted, s)
 }

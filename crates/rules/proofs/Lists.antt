@@ -83,6 +83,18 @@ pub record Alike {A : Type 0} (same : A → A → Bool) : Type 0 where
   pub back : (a b : A) → same a b ≡ same b a
   pub through : (a b c : A) → same a b ≡ true → same b c ≡ true → same a c ≡ true
 
+-- a list with one element more holds each once, if the list does and the element is new: of any test that does not ask which comes first
+pub inserted-once : {A : Type 0} (same : A → A → Bool) → ((a b : A) → same a b ≡ same b a) → {n : A} {xs ys : List A} → Inserted n xs ys
+    → once same ys ≡ not (any (same n) xs) && once same xs
+unfolding once any
+inserted-once same back here = refl
+inserted-once same back {n} (there {x = x} {xs = xs} {ys = ys} i) =
+    (λ j. not (any-inserted (same x) i j) && inserted-once same back i j)
+    ∙ (λ j. not-or (same x n) (any (same x) xs) j && (not (any (same n) xs) && once same xs))
+    ∙ and-shuffle (not (same x n)) (not (any (same x) xs)) (not (any (same n) xs)) (once same xs)
+    ∙ ap (λ (b : Bool). (not (any (same n) xs) && not b) && (not (any (same x) xs) && once same xs)) (back x n)
+    ∙ joined (any (same n) xs) (same n x) (not (any (same x) xs) && once same xs)
+
 module _ {A : Type 0} (same : A → A → Bool) (alike : Alike same) where
   -- alike elements are alike to the same
   pub swap-same : (a b k : A) → same a b ≡ true → same k a ≡ same k b
@@ -101,16 +113,8 @@ module _ {A : Type 0} (same : A → A → Bool) (alike : Alike same) where
   unfolding once
   once-cons x xs h o = rw h o
 
-  -- a list with one element more holds each once, if the list does and the element is new
   pub once-inserted : {n : A} {xs ys : List A} → Inserted n xs ys → once same ys ≡ not (any (same n) xs) && once same xs
-  unfolding once any
-  once-inserted here = refl
-  once-inserted {n} (there {x = x} {xs = xs} {ys = ys} i) =
-      (λ j. not (any-inserted (same x) i j) && once-inserted i j)
-      ∙ (λ j. not-or (same x n) (any (same x) xs) j && (not (any (same n) xs) && once same xs))
-      ∙ and-shuffle (not (same x n)) (not (any (same x) xs)) (not (any (same n) xs)) (once same xs)
-      ∙ ap (λ (b : Bool). (not (any (same n) xs) && not b) && (not (any (same x) xs) && once same xs)) (alike .back x n)
-      ∙ joined (any (same n) xs) (same n x) (not (any (same x) xs) && once same xs)
+  once-inserted i = inserted-once same (alike .back) i
 
   -- what is left where one element is dropped
   pub any-without-other : (k m : A) (xs : List A) → same k m ≡ false → any (same m) (without same k xs) ≡ any (same m) xs

@@ -10,7 +10,7 @@ use lib.Dec.{eqb, ltb}
 use lib.ListN.{length}
 use borrow.Author.Tests.{ne-eqb}
 use Rattle.rules.specs.declared.Settings.{Settings}
-use Rattle.rules.specs.Parties.{theirFirst, partyOf, isOf, ownDiscriminator}
+use Rattle.rules.specs.Parties.{theirFirst, partyOf, isOf, ownNumber, ownDiscriminator}
 use Rattle.rules.proofs.Bools.{split}
 use Rattle.rules.proofs.Counting.{count, count-same, count-both}
 
@@ -25,11 +25,15 @@ other-party l = split (ltb l theirFirst) (λ e. rw e) (λ e. rw e)
 pub no-party : (p l : ℕ) → isOf (suc (suc p)) l ≡ false
 no-party p l = ne-eqb (partyOf l) (suc (suc p)) (λ z. omega (arith, party-most l, z))
 
-pub same-own : (g h : Settings) → (ownDiscriminator g ≡ ownDiscriminator h) ↔ ((partyOf (g .label) ≡ partyOf (h .label)) × (g .discriminator ≡ h .discriminator))
-same-own g h = (λ e. (omega (arith, most, e), omega (arith, most, e)), λ w. omega (arith, w .0, w .1))
+-- two numbers within parties are one exactly where number and party are
+pub same-number : (k l m n : ℕ) → (ownNumber k m ≡ ownNumber l n) ↔ ((partyOf k ≡ partyOf l) × (m ≡ n))
+same-number k l m n = (λ e. (omega (arith, most, e), omega (arith, most, e)), λ w. omega (arith, w .0, w .1))
   where
-    most : (partyOf (g .label) ≤ 1) × (partyOf (h .label) ≤ 1)
-    most = (party-most (g .label), party-most (h .label))
+    most : (partyOf k ≤ 1) × (partyOf l ≤ 1)
+    most = (party-most k, party-most l)
+
+pub same-own : (g h : Settings) → (ownDiscriminator g ≡ ownDiscriminator h) ↔ ((partyOf (g .label) ≡ partyOf (h .label)) × (g .discriminator ≡ h .discriminator))
+same-own g h = same-number (g .label) (h .label) (g .discriminator) (h .discriminator)
 
 -- those of the one and those of the other are all
 pub both-parties : {A : Type 0} (label : A → ℕ) (xs : List A) → count (λ x. isOf 0 (label x)) xs + count (λ x. isOf 1 (label x)) xs ≡ length xs

@@ -24,6 +24,10 @@ ownLabel p l = cond (isOf p l) l 0
 abbrev pub ownMost : ℕ
 ownMost = 32
 
--- a discriminator counts within its party: both as one number, so that two of these are equal exactly where discriminator and party are
+-- a number counts within the party of its label: both as one, so that two of these are equal exactly where number and party are
+abbrev pub ownNumber : ℕ → ℕ → ℕ
+ownNumber label n = n * 2 + partyOf label
+
+-- a discriminator does
 abbrev pub ownDiscriminator : Settings → ℕ
-ownDiscriminator g = g .discriminator * 2 + partyOf (g .label)
+ownDiscriminator g = ownNumber (g .label) (g .discriminator)

@@ -12,16 +12,17 @@ use lib.ListN.{length, length-set, getD, set, take, drop, replicate, length-repl
 use lib.Seq.{take-suc, take-all, take-take, drop-cons, getD-set-same, getD-set-other}
 use lib.Dec.{eqb, leb}
 use borrow.Author.Tests.{eqb-true, eqb-false, eq-eqb, ne-eqb, leb-true, leb-false, lt-ltb, le-ltb}
+use Rattle.rules.specs.Parties.{ownNumber}
 use Rattle.rules.specs.Lists.{any, only, once}
 use Rattle.rules.proofs.Bools.{split, no-way, or-cases, or-left, or-right, refuted, true-false}
 use Rattle.rules.proofs.Lists.{Inserted, any-inserted, once-inserted, once-head, once-rest, once-cons, numbers-alike}
 use Rattle.rules.proofs.Counting.{oneIf, count, count-inserted}
 use Rattle.rules.proofs.TwoParties.{party-most}
-use Rattle.scan.specs.Distinct.{ownKey, keyIn, keyStands, filled, keys, distinctIn, reachOf, reached, firstWith, placeIn}
+use Rattle.scan.specs.Distinct.{keyIn, keyStands, filled, keys, distinctIn, reachOf, reached, firstWith, placeIn}
 
 -- ---- lists of numbers
 
-at-end : (x : ℕ) (xs : List ℕ) → Inserted x xs (xs ++ (x ∷ []))
+pub at-end : (x : ℕ) (xs : List ℕ) → Inserted x xs (xs ++ (x ∷ []))
 at-end x [] = Inserted.here
 at-end x (y ∷ ys) = Inserted.there (at-end x ys)
 
@@ -33,7 +34,7 @@ any-front p (x ∷ xs) ys e =
     let f : p x ≡ false = refuted (p x) (λ z. true-false (or-left (any p (xs ++ ys)) z) e) in
     rw f (any-front p xs ys (rw f at e))
 
-once-front : (xs ys : List ℕ) → once eqb (xs ++ ys) ≡ true → once eqb xs ≡ true
+pub once-front : (xs ys : List ℕ) → once eqb (xs ++ ys) ≡ true → once eqb xs ≡ true
 unfolding once
 once-front [] ys e = refl
 once-front (x ∷ xs) ys e =
@@ -88,7 +89,7 @@ any-set p (x ∷ xs) (suc i) v h = later-set (p v) (p x) (any p (set xs i v)) (p
 
 -- ---- the keys of the first pairs
 
-filled-append : (xs ys : List ℕ) → filled (xs ++ ys) ≡ filled xs ++ filled ys
+pub filled-append : (xs ys : List ℕ) → filled (xs ++ ys) ≡ filled xs ++ filled ys
 unfolding filled
 filled-append [] ys = refl
 filled-append (x ∷ xs) ys = split (eqb x 0) (λ e. rw e (filled-append xs ys)) (λ e. rw e (ap (λ (l : List ℕ). x ∷ l) (filled-append xs ys)))
@@ -283,13 +284,13 @@ same-number x q e =
     eq-eqb (q / 4294967296) (x / 2) (omega (arith, party-most (q % 4294967296), eqb-true (keyIn false q) x e))
 
 -- a discriminator that is not there is not there in any party
-pub none-within : (l d : ℕ) (ps : List ℕ) → any (λ p. eqb (p / 4294967296) d) ps ≡ false → any (λ p. eqb (keyIn false p) (ownKey l d)) ps ≡ false
+pub none-within : (l d : ℕ) (ps : List ℕ) → any (λ p. eqb (p / 4294967296) d) ps ≡ false → any (λ p. eqb (keyIn false p) (ownNumber l d)) ps ≡ false
 unfolding any
 none-within l d [] e = refl
 none-within l d (p ∷ ps) e =
     let f = neither (eqb (p / 4294967296) d) (any (λ q. eqb (q / 4294967296) d) ps) e in
-    let unlike : eqb (keyIn false p) (ownKey l d) ≡ false =
-    ne-eqb (keyIn false p) (ownKey l d) (λ z. eqb-false (p / 4294967296) d (f .0) (omega (arith, party-most (p % 4294967296), party-most l, z))) in
+    let unlike : eqb (keyIn false p) (ownNumber l d) ≡ false =
+    ne-eqb (keyIn false p) (ownNumber l d) (λ z. eqb-false (p / 4294967296) d (f .0) (omega (arith, party-most (p % 4294967296), party-most l, z))) in
     rw unlike (none-within l d ps (f .1))
 
 among-numbers : (x : ℕ) (ps : List ℕ) → any (eqb x) (map (keyIn false) ps) ≡ true → any (eqb (x / 2)) (map (λ p. p / 4294967296) ps) ≡ true

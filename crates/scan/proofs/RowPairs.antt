@@ -10,7 +10,7 @@ use lib.Seq.{take-nil, drop-nil}
 use lib.Dec.{eqb, ltb}
 use lib.Count.{leadingZeros, leading-le}
 use borrow.Author.Tests.{eqb-true, ne-eqb, lt-ltb, le-ltb, ltb-true, ltb-false, eqb-false, not-false}
-use Rattle.rules.specs.Parties.{isOf, ownDiscriminator}
+use Rattle.rules.specs.Parties.{isOf, ownDiscriminator, ownNumber}
 use Rattle.rules.specs.Lists.{any, only, once}
 use Rattle.rules.proofs.Bools.{split}
 use Rattle.rules.proofs.Fitting.{SettingsSay, settings-say}
@@ -22,7 +22,7 @@ use Rattle.table.specs.Places.{firstOn, occupiedOf, opens, hasLabel, placeOf}
 use Rattle.table.specs.Table.{sameLabel, sameDiscriminator}
 use Rattle.table.proofs.Rows.{count-opens}
 use Rattle.table.proofs.Shares.{heldBy}
-use Rattle.scan.specs.Distinct.{keyPair, ownKey, keyIn, theirsOf, filled, keys, distinctIn, reachOf, reached, firstWith, placeIn, rivalIn}
+use Rattle.scan.specs.Distinct.{keyPair, keyIn, theirsOf, filled, keys, distinctIn, reachOf, reached, firstWith, placeIn, rivalIn}
 use Rattle.scan.specs.Passing.{apart}
 use Rattle.scan.proofs.KeyMarks.{neither}
 
@@ -33,13 +33,17 @@ pairOf r = keyPair (r .settings .label) (r .settings .discriminator)
 abbrev keyOf : Bool → Session → ℕ
 keyOf labels r = cond labels (r .settings .label) (ownDiscriminator (r .settings))
 
--- the pairs of a row with a set of occupied places
-unfoldable pub pairsOf : ℕ → List Session → List ℕ
-pairsOf set [] = []
-pairsOf set (r ∷ rs) = cond (firstOn set) (pairOf r) 0 ∷ pairsOf (set / 2) rs
+-- a number for each place of a row with a set of occupied places: that of an open record, and 0 for a free place
+unfoldable pub entriesOf : (Session → ℕ) → ℕ → List Session → List ℕ
+entriesOf entry set [] = []
+entriesOf entry set (r ∷ rs) = cond (firstOn set) (entry r) 0 ∷ entriesOf entry (set / 2) rs
+
+-- the pairs of a row
+abbrev pub pairsOf : ℕ → List Session → List ℕ
+pairsOf set rows = entriesOf pairOf set rows
 
 pub length-pairs : (set : ℕ) (rows : List Session) → length (pairsOf set rows) ≡ length rows
-unfolding pairsOf
+unfolding entriesOf
 length-pairs set [] = refl
 length-pairs set (r ∷ rs) = ap suc (length-pairs (set / 2) rs)
 
@@ -57,13 +61,13 @@ one-on m n =
 -- ---- behind the last occupied place all is 0
 
 pairs-none : (rows : List Session) → pairsOf 0 rows ≡ replicate (length rows) 0
-unfolding pairsOf
+unfolding entriesOf
 pairs-none [] = refl
 pairs-none (r ∷ rs) = ap (λ (l : List ℕ). 0 ∷ l) (pairs-none rs)
 
 pairs-behind : (k set : ℕ) (rows : List Session) → length rows ≡ k
     → drop (k - leadingZeros k set) (pairsOf set rows) ≡ replicate (length (drop (k - leadingZeros k set) (pairsOf set rows))) 0
-unfolding pairsOf leadingZeros
+unfolding entriesOf leadingZeros
 pairs-behind k set [] n = rw (drop-nil {A = ℕ} (k - leadingZeros k set))
 pairs-behind zero set (r ∷ rs) n = absurd (omega arith)
 pairs-behind (suc k) zero (r ∷ rs) n =
@@ -188,7 +192,7 @@ module _ (clock : ℕ) where
     key-back false =
         let label : pairOf r % 4294967296 ≡ r .settings .label = omega (arith, said .labelHigh) in
         let discriminator : pairOf r / 4294967296 ≡ r .settings .discriminator = omega (arith, said .labelHigh) in
-        λ i. ownKey (label i) (discriminator i)
+        λ i. ownNumber (label i) (discriminator i)
 
     key-some : (labels : Bool) → eqb 0 (keyOf labels r) ≡ false
     key-some true = ne-eqb 0 (r .settings .label) (λ z. omega (arith, said .labelLow, z))
@@ -211,7 +215,7 @@ module _ (clock : ℕ) where
   -- as far as the set reaches, the pairs that are filled are those of the open records
   filled-open : (k set : ℕ) (rows : List Session) → length rows ≡ k → any unsoundAt (opens set rows) ≡ false
       → filled (take (k - leadingZeros k set) (pairsOf set rows)) ≡ map pairOf (opens set rows)
-  unfolding filled pairsOf opens leadingZeros
+  unfolding filled entriesOf opens leadingZeros
   filled-open k set [] n e = ap filled (take-nil {A = ℕ} (k - leadingZeros k set))
   filled-open zero set (r ∷ rs) n e = absurd (omega arith)
   filled-open (suc k) zero (r ∷ rs) n e =
@@ -245,7 +249,7 @@ module _ (clock : ℕ) where
 
   -- the first pair with a label is that of its record
   with-place : (label set : ℕ) (rows : List Session) → (label ≡ 0 → ⊥) → any unsoundAt (opens set rows) ≡ false → firstWith label (pairsOf set rows) ≡ placeOf label set rows
-  unfolding firstWith pairsOf placeOf
+  unfolding firstWith entriesOf placeOf
   with-place label set [] d e = refl
   with-place label set (r ∷ rs) d e =
       split (firstOn set)
@@ -279,7 +283,7 @@ module _ (clock : ℕ) where
   -- and a pair with a discriminator in a party is that of its record
   any-pairs : (key set : ℕ) (rows : List Session) → (key ≡ 0 → ⊥) → any unsoundAt (opens set rows) ≡ false
       → any (λ p. eqb (keyIn false p) key) (pairsOf set rows) ≡ any (λ r. eqb (ownDiscriminator (r .settings)) key) (opens set rows)
-  unfolding pairsOf opens any
+  unfolding entriesOf opens any
   any-pairs key set [] d e = refl
   any-pairs key set (r ∷ rs) d e =
       split (firstOn set)
@@ -304,10 +308,10 @@ module _ (clock : ℕ) where
 
   pub pairs-rival : (label discriminator set : ℕ) (rows : List Session) → length rows ≡ 64 → (discriminator ≡ 0 → ⊥) → any unsoundAt (opens set rows) ≡ false
       → rivalIn (pairsOf set rows) set (placeOf label set rows) label discriminator
-      ≡ any (λ r. eqb (r .settings .label) label || eqb (ownDiscriminator (r .settings)) (ownKey label discriminator)) (opens set rows)
+      ≡ any (λ r. eqb (r .settings .label) label || eqb (ownDiscriminator (r .settings)) (ownNumber label discriminator)) (opens set rows)
   unfolding rivalIn
   pairs-rival label discriminator set rows n d e =
-      let key = ownKey label discriminator in
+      let key = ownNumber label discriminator in
       let some : key ≡ 0 → ⊥ = λ z. d (omega (arith, z)) in
       let other : Session → Bool = λ r. eqb (ownDiscriminator (r .settings)) key in
       rw (length-pairs set rows, place-any label set rows, ne-eqb discriminator 0 d, any-reached set rows n (λ p. eqb (keyIn false p) key) (ne-eqb 0 key (λ z. some (sym z))), any-pairs key set rows some e)
@@ -319,7 +323,7 @@ module _ (clock : ℕ) where
 
   -- the labels that are theirs are those of their records
   pub pairs-theirs : (set : ℕ) (rows : List Session) → any unsoundAt (opens set rows) ≡ false → theirsOf (pairsOf set rows) ≡ count (heldBy 1) (opens set rows)
-  unfolding pairsOf opens
+  unfolding entriesOf opens
   pairs-theirs set [] e = unfold only in refl
   pairs-theirs set (r ∷ rs) e =
       let theirs : ℕ → Bool = λ p. isOf 1 (keyIn true p) in

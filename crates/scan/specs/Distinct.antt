@@ -1,4 +1,4 @@
--- The keys of open records: the label, and the discriminator within its party. A key pair has a record's label and discriminator in one number; each is noted
+-- The keys of open records: the label, the discriminator within its party, and the ID of a group within its party. A key pair has a record's label and discriminator in one number; each is noted
 -- at its record's place, and 0 stands where none was.
 -- Assumes nothing.
 use Prim.Native.Nat.{ℕ, suc, _+_, _-_, _*_, _/_, _%_}
@@ -7,20 +7,16 @@ use mathlib.Core.List.{List, [], _∷_, map}
 use lib.ListN.{length, take}
 use lib.Dec.{eqb, ltb}
 use lib.Count.{leadingZeros}
-use Rattle.rules.specs.Parties.{partyOf, isOf}
+use Rattle.rules.specs.Parties.{isOf, ownNumber}
 use Rattle.rules.specs.Lists.{any, only, once}
 
 -- both are numbers of 32 bits
 abbrev pub keyPair : ℕ → ℕ → ℕ
 keyPair label discriminator = discriminator * 4294967296 + label
 
--- a discriminator within the party of its label
-abbrev pub ownKey : ℕ → ℕ → ℕ
-ownKey label discriminator = discriminator * 2 + partyOf label
-
 -- the label of a pair, or its discriminator within its party
 abbrev pub keyIn : Bool → ℕ → ℕ
-keyIn labels pair = cond labels (pair % 4294967296) (ownKey (pair % 4294967296) (pair / 4294967296))
+keyIn labels pair = cond labels (pair % 4294967296) (ownNumber (pair % 4294967296) (pair / 4294967296))
 
 -- two pairs have a key in common
 abbrev pub alike : ℕ → ℕ → Bool
@@ -53,6 +49,14 @@ reachOf occupied = 64 - leadingZeros 64 occupied
 abbrev pub reached : ℕ → List ℕ → List ℕ
 reached occupied pairs = take (reachOf occupied) pairs
 
+-- of a group: its ID within the party of its label; 1 more, so that none is 0
+abbrev pub groupKey : ℕ → ℕ → ℕ
+groupKey label id = ownNumber label id + 1
+
+-- no two that were noted are alike
+unfoldable pub onceIn : List ℕ → Bool
+onceIn keys = once eqb (filled keys)
+
 -- the first place with a label; behind them all where there is none
 unfoldable pub firstWith : ℕ → List ℕ → ℕ
 firstWith label [] = 0
@@ -68,4 +72,4 @@ placeIn label occupied pairs =
 unfoldable pub rivalIn : List ℕ → ℕ → ℕ → ℕ → ℕ → Bool
 rivalIn pairs occupied place label discriminator =
     cond (ltb place (length pairs)) true
-    (cond (eqb discriminator 0) false (any (λ p. eqb (keyIn false p) (ownKey label discriminator)) (reached occupied pairs)))
+    (cond (eqb discriminator 0) false (any (λ p. eqb (keyIn false p) (ownNumber label discriminator)) (reached occupied pairs)))

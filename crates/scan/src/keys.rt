@@ -6,16 +6,75 @@ use octets::least;
 ghost use mathlib.Core.Path.{_≡_};
 ghost use mathlib.Core.Bool.{true, false, _&&_};
 ghost use lib.Dec.{eqb};
-ghost use lib.ListN.{take};
+ghost use lib.ListN.{take, drop};
 ghost use Prim.Native.Nat.{_/_};
-ghost use Rattle.rules.specs.Parties.{partyOf};
+ghost use Rattle.rules.specs.Parties.{partyOf, ownNumber};
 ghost use Rattle.rules.specs.Lists.{any};
-ghost use Rattle.scan.specs.Distinct.{keyPair, ownKey, keyIn, alike, keyStands, reachOf, reached, distinctIn, placeIn, rivalIn, theirsOf};
+ghost use Rattle.scan.specs.Distinct.{keyPair, groupKey, onceIn, keyIn, alike, keyStands, reachOf, reached, distinctIn, placeIn, rivalIn, theirsOf};
 
 pub fn key_pair(label: u32, discriminator: u32) -> u64
     ensures { λ r. ⌜ r ≡ keyPair label discriminator ⌝ }
 {
     discriminator as u64 * 4_294_967_296 + label as u64
+}
+
+pub fn group_key(label: u32, id: u32) -> u64
+    ensures { λ r. ⌜ r ≡ groupKey label id ⌝ }
+{
+    own_key(label, id) + 1
+}
+
+// Of all that a pass notes the key pairs, 64 of them, and what stands behind these.
+pub fn pairs_in(noted: &[u64]) -> &[u64]
+    ensures { λ r. ⌜ now r ≡ take 64 (now (noted .entry)) ⌝ }
+{
+    if noted.len() <= 64 {
+        return noted;
+    }
+    &noted[..64]
+}
+
+pub fn groups_in(noted: &[u64]) -> &[u64]
+    ensures { λ r. ⌜ now r ≡ drop 64 (now (noted .entry)) ⌝ }
+{
+    if noted.len() <= 64 {
+        return &noted[0..0];
+    }
+    &noted[64..]
+}
+
+// A number stands among the first ones.
+fn stands_before(keys: &[u64], end: usize, key: u64) -> bool
+    ensures { λ r. ⌜ r ≡ any (eqb key) (take end (now (keys .entry))) ⌝ }
+{
+    let n = least(end, keys.len());
+    let mut found = false;
+    let mut i: usize = 0;
+    while i < n {
+        if keys[i] == key {
+            found = true;
+        }
+        i += 1;
+    }
+    found
+}
+
+// No two of these are alike; 0 stands where none was noted. Few tables have groups, and no call is
+// timed by them: each is searched among those before it.
+pub fn each_once(keys: &[u64]) -> bool
+    ensures { λ r. ⌜ r ≡ onceIn (now (keys .entry)) ⌝ }
+{
+    let mut i: usize = 0;
+    while i < keys.len() {
+        let key = keys[i];
+        if key != 0 {
+            if stands_before(keys, i, key) {
+                return false;
+            }
+        }
+        i += 1;
+    }
+    true
 }
 
 fn label_in(pair: u64) -> u32
@@ -32,7 +91,7 @@ fn discriminator_in(pair: u64) -> u32
 
 // A discriminator within the party of its label, as one number.
 fn own_key(label: u32, discriminator: u32) -> u64
-    ensures { λ r. ⌜ r ≡ ownKey label discriminator ⌝ }
+    ensures { λ r. ⌜ r ≡ ownNumber label discriminator ⌝ }
 {
     discriminator as u64 * 2 + rules::party_of(label) as u64
 }
@@ -198,7 +257,7 @@ fn has_key(pairs: &[u64], occupied: u64, key: u64) -> bool
 
 // The discriminator is there in the label's party. Whose it is, is asked only where it is there.
 fn has_own(pairs: &[u64], occupied: u64, label: u32, discriminator: u32) -> bool
-    ensures { λ r. ⌜ r ≡ any (λ p. eqb (keyIn false p) (ownKey label discriminator)) (reached occupied (now (pairs .entry))) ⌝ }
+    ensures { λ r. ⌜ r ≡ any (λ p. eqb (keyIn false p) (ownNumber label discriminator)) (reached occupied (now (pairs .entry))) ⌝ }
 {
     if has_discriminator(pairs, occupied, discriminator) {
         return has_key(pairs, occupied, own_key(label, discriminator));

@@ -16,7 +16,7 @@ pub struct Target {
 }
 
 // What is known at a place of the row: the clock, the set of all open places, the set from this
-// place on, 0 while all open records were sound, what is looked for. A bool would leave a gap behind
+// place on, 0 while all open records were sound, what is looked for, 1 once a group was met. A bool would leave a gap behind
 // it, which is copied in each turn.
 pub struct Progress {
     pub clock: u64,
@@ -25,6 +25,7 @@ pub struct Progress {
     pub fault: u64,
     pub label: u32,
     pub discriminator: u32,
+    pub grouped: u64,
 }
 
 // What the scan comes to. `sound` is false where 26 is due; `full` is true where the party of the label

@@ -4,7 +4,11 @@ use crate::Share;
 use crate::Summary;
 use crate::Target;
 use crate::keys::distinct;
+use crate::keys::each_once;
+use crate::keys::group_key;
+use crate::keys::groups_in;
 use crate::keys::key_pair;
+use crate::keys::pairs_in;
 use crate::keys::place_in;
 use crate::keys::rival_in;
 use crate::keys::theirs_in;
@@ -16,7 +20,7 @@ ghost use mathlib.Core.Bool.{not, _&&_, cond};
 ghost use lib.Dec.{eqb, ltb};
 ghost use lib.ListN.{length, set};
 ghost use Prim.Native.Nat.{_-_};
-ghost use Rattle.scan.specs.Passing.{startOf, passed, failed, takenIn, noted, apart, ownCount, shareIn, judgedOf};
+ghost use Rattle.scan.specs.Passing.{startOf, passed, passedWith, failed, takenIn, notedGroup, noted, apart, groupsApart, ownCount, shareIn, judgedOf};
 
 // Before the first record; a row that is not of 64 is unsound, and nothing in it is looked at.
 pub fn start(records: usize, head: Head, target: Target) -> Progress
@@ -29,6 +33,7 @@ pub fn start(records: usize, head: Head, target: Target) -> Progress
         fault: 1,
         label: target.label,
         discriminator: target.discriminator,
+        grouped: 0,
     };
     if records == 64 {
         s.rest = head.occupied;
@@ -52,6 +57,14 @@ fn passed_by(s: Progress) -> Progress
     next
 }
 
+fn passed_group(s: Progress) -> Progress
+    ensures { λ r. ⌜ r ≡ passedWith 1 s ⌝ }
+{
+    let mut next = passed_by(s);
+    next.grouped = 1;
+    next
+}
+
 // The first record that is not sound ends the pass. What is left of the set is no 0, and at hand: a
 // number of its own would be loaded ahead of every test that can fail.
 fn failed_at(s: Progress) -> Progress
@@ -71,7 +84,16 @@ fn note(pairs: &mut [u64], at: usize, pair: u64)
     }
 }
 
-// One record is taken in. It is looked at only where its place is occupied. The pair is noted last:
+// The key of a group, 64 places behind its record's.
+fn note_group(pairs: &mut [u64], at: usize, key: u64)
+    ensures { λ _. ⌜ now (pairs .exit) ≡ notedGroup (now (pairs .entry)) at key ⌝ }
+{
+    if at < 64 {
+        note(pairs, at + 64, key);
+    }
+}
+
+// One record is taken in. It is looked at only where its place is occupied. What is noted is noted last:
 // behind a store the record would be loaded whole.
 pub fn take_in(pairs: &mut [u64], s: Progress, at: usize, r: Session) -> Progress
     ensures { λ n. ⌜ (n ≡ takenIn s at r) × (now (pairs .exit) ≡ noted (now (pairs .entry)) s at r) ⌝ }
@@ -79,6 +101,12 @@ pub fn take_in(pairs: &mut [u64], s: Progress, at: usize, r: Session) -> Progres
     if s.rest % 2 == 1 {
         if session::session_sound(r, s.clock) {
             let pair = key_pair(r.settings.label, r.settings.discriminator);
+            if r.group.set == 1 {
+                let key = group_key(r.settings.label, r.group.id);
+                note(&mut *pairs, at, pair);
+                note_group(&mut *pairs, at, key);
+                return passed_group(s);
+            }
             note(pairs, at, pair);
             return passed_by(s);
         }
@@ -137,16 +165,28 @@ fn share_by(pairs: &[u64], occupied: u64, label: u32) -> Share
     }
 }
 
+// Where no group was met none is looked for.
+fn groups_apart(keys: &[u64], grouped: u64) -> bool
+    ensures { λ r. ⌜ r ≡ groupsApart (now (keys .entry)) grouped ⌝ }
+{
+    if grouped == 0 {
+        return true;
+    }
+    each_once(keys)
+}
+
 // What the scan comes to. A fault is asked for last: asked first, every test of the pass that can fail
 // would carry the whole answer with it.
-pub fn judged(pairs: &[u64], s: Progress) -> Summary
-    ensures { λ r. ⌜ r ≡ judgedOf (now (pairs .entry)) s ⌝ }
+pub fn judged(noted: &[u64], s: Progress) -> Summary
+    ensures { λ r. ⌜ r ≡ judgedOf (now (noted .entry)) s ⌝ }
 {
+    let pairs = pairs_in(noted);
     let apart = apart_by(pairs, s.occupied);
     let share = share_by(pairs, s.occupied, s.label);
     let place = place_in(pairs, s.occupied, s.label);
     let rival = rival_in(pairs, s.occupied, place, s.label, s.discriminator);
-    let sound = both(s.fault == 0, both(apart, share.kept));
+    let groups = groups_apart(groups_in(noted), s.grouped);
+    let sound = both(s.fault == 0, both(both(apart, share.kept), groups));
     Summary {
         place: place,
         sound: sound,

@@ -3,13 +3,13 @@
 -- Assumes nothing.
 use Prim.Native.Nat.{ℕ}
 use native.Mathlib.Omega.{arith}
-use mathlib.Core.Path.{_≡_, refl, sym, _∙_}
+use mathlib.Core.Path.{_≡_, refl, sym, ap, _∙_}
 use mathlib.Core.Bool.{Bool, true, false, not, _||_}
 use mathlib.Core.List.{List}
 use lib.Dec.{eqb}
 use borrow.Author.Tests.{eqb-true, eqb-false, eq-eqb, ne-eqb}
 use Rattle.octets.specs.Choice.{orElse, accepted, refused}
-use Rattle.octets.proofs.Chain.{and-both, answer-accepted, answer-refused}
+use Rattle.octets.proofs.Chain.{and-both, orElse-passed, answer-accepted, answer-refused}
 use Rattle.gach.specs.Header.{ccChannel, cvChannel, faultChannel, channelOf, headerRefusal, channelRefusal}
 use Rattle.gach.specs.Kinds.{kindRefusal}
 use Rattle.bfd.specs.declared.Packet.{Packet}
@@ -22,9 +22,10 @@ use Rattle.cv.specs.Cv.{cvBodyRefusal, sourceOf}
 use Rattle.cv.proofs.Says.{cv-behind, part-source}
 use Rattle.fault.specs.declared.Fault.{Fault}
 use Rattle.fault.specs.Message.{faultRefusal, faultOf, readFault}
+use Rattle.coordination.specs.Message.{dhcChannel, refusalWith, dhcRefusal}
 use Rattle.message.specs.declared.Message.{Message}
 use Rattle.message.specs.declared.Message.the-variants.{ContinuityCheck, ConnectivityVerification, FaultManagement}
-use Rattle.message.specs.Message.{messageRefusal, messageOf}
+use Rattle.message.specs.Message.{unheardDhc, messageRefusal, messageOf}
 use Rattle.rules.specs.Received.{foreign, receivedAs}
 use Rattle.rules.proofs.Bools.{split}
 use Rattle.conditions.specs.Taking.{faultAnswer}
@@ -33,7 +34,7 @@ use Rattle.session.specs.declared.acts.Acted.{Acted}
 use Rattle.session.specs.declared.acts.Faulted.{Faulted}
 use Rattle.session.specs.Steps.{heardCc, heardCv, crossedAt, faultTaken}
 use Rattle.session.specs.Reception.{bfdAnswer, receivedAnswer, receivedBy}
-use Rattle.session.specs.Live.{receivedNumber, receivedRecord, behind, isFault, liveOf, putLive, withLive, actedOf, actedUnder, actedBy, ccActed, cvActed, bfdActed, withFault, faultedOf, faultedUnder, faultedBy, faultActed}
+use Rattle.session.specs.Live.{receivedNumber, receivedRecord, behind, isFault, otherRefusal, liveOf, putLive, withLive, actedOf, actedUnder, actedBy, ccActed, cvActed, bfdActed, withFault, faultedOf, faultedUnder, faultedBy, faultActed}
 
 -- a crossed CC, and a crossed CV
 abbrev pub ccCrosses : Session → List ℕ → Bool
@@ -171,6 +172,10 @@ module _ (s : Session) (m : List ℕ) (reading : ℕ) where
       (λ a. rw a (crossed-back s reading))
       (λ a. rw a (cv-back s reading))
 
+  -- a message on another channel is no DHC message
+  no-dhc : (channel : ℕ) → channelOf m ≡ channel → eqb (channelOf m) dhcChannel ≡ eqb channel dhcChannel
+  no-dhc channel e = ap (λ (c : ℕ). eqb c dhcChannel) e
+
   module _ (header : headerRefusal m ≡ 0) where
     own-channel : (channel : ℕ) → channelOf m ≡ channel → channelRefusal channel m ≡ 0
     unfolding channelRefusal
@@ -179,7 +184,7 @@ module _ (s : Session) (m : List ℕ) (reading : ℕ) where
     -- on a CC's channel
     cc-refusal-is : eqb (channelOf m) ccChannel ≡ true → messageRefusal m ≡ ccBodyRefusal m
     unfolding messageRefusal kindRefusal
-    cc-refusal-is e = rw (header, e) (cc-behind m (own-channel ccChannel (eqb-true _ _ e)))
+    cc-refusal-is e = rw (no-dhc ccChannel (eqb-true _ _ e), header, e) (cc-behind m (own-channel ccChannel (eqb-true _ _ e)))
 
     cc-message-is : eqb (channelOf m) ccChannel ≡ true → messageOf m ≡ ContinuityCheck (packetOf m)
     unfolding messageOf
@@ -194,7 +199,7 @@ module _ (s : Session) (m : List ℕ) (reading : ℕ) where
     -- on a CV's channel
     cv-refusal-is : eqb (channelOf m) ccChannel ≡ false → eqb (channelOf m) cvChannel ≡ true → messageRefusal m ≡ cvBodyRefusal m
     unfolding messageRefusal kindRefusal
-    cv-refusal-is d e = rw (header, d, e) (cv-behind m (own-channel cvChannel (eqb-true _ _ e)))
+    cv-refusal-is d e = rw (no-dhc cvChannel (eqb-true _ _ e), header, d, e) (cv-behind m (own-channel cvChannel (eqb-true _ _ e)))
 
     cv-message-is : eqb (channelOf m) ccChannel ≡ false → eqb (channelOf m) cvChannel ≡ true → cvBodyRefusal m ≡ 0
         → messageOf m ≡ ConnectivityVerification (packetOf m) (sourceOf m)
@@ -211,19 +216,21 @@ module _ (s : Session) (m : List ℕ) (reading : ℕ) where
 
     -- on none of the three
     other-refusal-is : eqb (channelOf m) ccChannel ≡ false → eqb (channelOf m) cvChannel ≡ false → eqb (channelOf m) faultChannel ≡ false
-        → messageRefusal m ≡ 5
+        → messageRefusal m ≡ otherRefusal m
     unfolding messageRefusal kindRefusal
     other-refusal-is d e f = rw (header, d, e, f)
 
   -- whose header is refused
   header-refusal-is : (headerRefusal m ≡ 0 → ⊥) → messageRefusal m ≡ headerRefusal m
-  unfolding messageRefusal kindRefusal
-  header-refusal-is h = rw (ne-eqb (headerRefusal m) 0 h, ne-eqb (headerRefusal m) 0 h)
+  unfolding messageRefusal kindRefusal unheardDhc dhcRefusal refusalWith channelRefusal
+  header-refusal-is h =
+      let no = ne-eqb (headerRefusal m) 0 h in
+      split (eqb (channelOf m) dhcChannel) (λ d. simp (d, no)) (λ d. simp (d, no))
 
   -- on a fault message's channel
   fault-refusal-is : headerRefusal m ≡ 0 → channelOf m ≡ faultChannel → messageRefusal m ≡ faultRefusal m
   unfolding messageRefusal kindRefusal
-  fault-refusal-is h e = rw (h, e)
+  fault-refusal-is h e = rw (no-dhc faultChannel e, h, e)
 
   fault-message-is : channelOf m ≡ faultChannel → messageOf m ≡ FaultManagement (faultOf m)
   unfolding messageOf
@@ -242,6 +249,14 @@ module _ (s : Session) (m : List ℕ) (reading : ℕ) where
             ∙ sym (record-as n x r f),
       )
 
+-- what is none of the three is refused
+other-refuses : (m : List ℕ) → otherRefusal m ≡ 0 → ⊥
+unfolding unheardDhc
+other-refuses m e =
+    split (eqb (channelOf m) dhcChannel)
+    (λ d. omega (arith, orElse-passed (dhcRefusal m) 24 (rw d at e) .1))
+    (λ d. absurd (omega (arith, rw d at e)))
+
 -- every message but a fault message
 pub bfd-acts : (s : Session) (m : List ℕ) (reading : ℕ) → isFault m ≡ false
     → (bfdActed s m reading .answer ≡ receivedNumber s m reading) × (withLive s (bfdActed s m reading) ≡ receivedRecord s m reading)
@@ -256,7 +271,7 @@ bfd-acts s m reading f =
     (λ d. rw d
     (split (eqb (channelOf m) cvChannel)
     (λ e. rw e (cv-agrees s m reading header d e))
-    (λ e. rw e (header-agrees s m reading 5 (other-refusal-is s m reading header d e (rw h at f)) (λ z. omega arith)))))))
+    (λ e. rw e (header-agrees s m reading (otherRefusal m) (other-refusal-is s m reading header d e (rw h at f)) (other-refuses m)))))))
     (λ h. rw h (header-agrees s m reading (headerRefusal m) (header-refusal-is s m reading (eqb-false _ _ h)) (eqb-false _ _ h)))
 
 -- every fault message

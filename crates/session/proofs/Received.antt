@@ -13,6 +13,7 @@ use Rattle.rules.specs.Received.{foreign, receivedAs}
 use Rattle.rules.proofs.Bools.{split}
 use Rattle.session.specs.declared.Session.{Session}
 use Rattle.session.specs.Steps.{heardCc, heardCv, crossedAt, faultTaken}
+use Rattle.session.specs.Queries.{groupAt}
 use Rattle.session.specs.Reception.{receivedBy}
 use Rattle.session.specs.Soundness.{sessionSound}
 use Rattle.session.proofs.Sound.{heard-cc-sound, heard-cv-sound, crossed-sound, fault-sound}
@@ -35,3 +36,11 @@ received-keeps s reading CrossedMessage = unfold crossedAt in refl
 received-keeps s reading (HeardCc p) = unfold heardCc in refl
 received-keeps s reading HeardCv = unfold heardCv in refl
 received-keeps s reading (FaultMessage f) = unfold faultTaken in refl
+
+-- and whether it has a group, and of which ID
+pub received-group : (s : Session) (reading : ℕ) (x : Received)
+    → (receivedBy s reading x .group .set ≡ s .group .set) × (receivedBy s reading x .group .id ≡ s .group .id)
+received-group s reading CrossedMessage = unfold crossedAt groupAt in (refl, refl)
+received-group s reading (HeardCc p) = unfold heardCc groupAt in (refl, refl)
+received-group s reading HeardCv = unfold heardCv groupAt in (refl, refl)
+received-group s reading (FaultMessage f) = unfold faultTaken groupAt in (refl, refl)

@@ -14,8 +14,10 @@ use borrow.Author.Tests.{not-true}
 use Rattle.rules.proofs.Bools.{split, both-true}
 use Rattle.rules.proofs.Exposed.{timer-alike}
 use Rattle.rules.proofs.States.{state-stored, moved-locked, timer-twice, byTimer, no-rise, source-still}
+use Rattle.homing.specs.Groups.{fallen}
+use Rattle.homing.proofs.Orders.{looked-later}
 use Rattle.session.specs.declared.Session.{Session}
-use Rattle.session.specs.Queries.{lockedIn, sourceUpIn, lossAt, stateAt}
+use Rattle.session.specs.Queries.{lockedIn, sourceUpIn, lossAt, stateAt, groupAt}
 use Rattle.session.specs.Steps.{settled}
 
 -- a loss at one clock is a loss at every later one
@@ -93,6 +95,13 @@ settled-state s now later h =
     rw (settled-loss s now later, settled-start s now)
     (split (lossAt s now) (λ a. rw (a, loss-later s now later h a) (timer-twice (modeIn (s .settings)) from)) (λ a. rw a))
 
+-- its group at a later clock too
+pub settled-group : (s : Session) (now later : ℕ) → now ≤ later → groupAt (settled s now) later ≡ groupAt s later
+unfolding groupAt settled
+settled-group s now later h =
+    ap (λ (loss : Bool). fallen loss (fallen (lossAt s now) (s .group))) (settled-loss s now later)
+    ∙ looked-later (lossAt s now) (lossAt s later) (loss-later s now later h) (s .group)
+
 -- settling twice is settling at the later
 pub settled-twice : (s : Session) (now later : ℕ) → now ≤ later → settled (settled s now) later ≡ settled s later
 unfolding settled
@@ -105,6 +114,7 @@ settled-twice s now later h =
       peer = s .peer;
       state = stored (settled-state s now later h i);
       crossing = s .crossing;
+      group = settled-group s now later h i;
     }
 
 -- a session that is coming up at a clock was coming up before

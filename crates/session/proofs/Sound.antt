@@ -23,6 +23,9 @@ use Rattle.rules.proofs.Bools.{split, or-cases, or-left, or-right, no-way, forc
 use Rattle.rules.proofs.Failing.{at-most, both-fail}
 use Rattle.rules.proofs.Unfit.{settings-unfit}
 use Rattle.rules.proofs.States.{state-stored, stored-fits, Lowering, no-rise, byLinkDown, byLockReport, byCrossed}
+use Rattle.homing.specs.Fitting.{groupFits}
+use Rattle.homing.specs.Events.{Timer as GivenTimer, Crossed as CrossedOn}
+use Rattle.homing.proofs.Fits.{group-unfit, after-fits}
 use Rattle.conditions.specs.declared.Conditions.{Conditions}
 use Rattle.conditions.specs.Soundness.{placeSound, placesSound, clash, noClash, conditionsSound}
 use Rattle.conditions.specs.Taking.{takenIn}
@@ -30,10 +33,10 @@ use Rattle.conditions.proofs.Fading.{sound-later}
 use Rattle.conditions.proofs.Taken.{taken-sound}
 use Rattle.conditions.proofs.Unsound.{conditions-unsound}
 use Rattle.session.specs.declared.Session.{Session}
-use Rattle.session.specs.Queries.{lockedIn, heldAt, stateAt}
-use Rattle.session.specs.Steps.{newSession, settled, lockedBy, unlockedAt, heardCc, heardCv, crossedAt, faultTaken, replySettled}
+use Rattle.session.specs.Queries.{lockedIn, lossAt, heldAt, stateAt, groupAt}
+use Rattle.session.specs.Steps.{newSession, settled, lockedAt, unlockedAt, heardCc, heardCv, crossedAt, faultTaken, replySettled}
 use Rattle.session.specs.Soundness.{sessionSound}
-use Rattle.session.specs.Unsound.{UnsoundSession, settingsUnfit, stateAbove, noMultiplier, diagnosticAbove, owedMark, crossingMark, timedAbove, crossedAbove, conditionsUnsound, noRemote}
+use Rattle.session.specs.Unsound.{UnsoundSession, settingsUnfit, stateAbove, noMultiplier, diagnosticAbove, owedMark, crossingMark, timedAbove, crossedAbove, conditionsUnsound, noRemote, groupUnfit}
 use Rattle.session.proofs.Settling.{coming-up-before}
 use Rattle.session.proofs.Unsound.{up-told, told-up, session-unsound}
 
@@ -49,6 +52,7 @@ pub record Says (s : Session) (clock : ℕ) : Type 0 where
   pub crossed : eqb (s .crossing) 0 || leb (s .crossed) clock ≡ true
   pub remote : isComingUp (stateOf (s .state)) ≡ true → s .peer .remote ≡ 0 → ⊥
   pub conditions : conditionsSound (s .conditions) clock ≡ true
+  pub group : groupFits (s .settings .label) (s .group) ≡ true
 
 pub sound-says : (s : Session) (clock : ℕ) → sessionSound s clock ≡ true → Says s clock
 sound-says s clock e =
@@ -63,6 +67,7 @@ sound-says s clock e =
       crossed = forced _ (both-fail (λ m h. no (crossedAbove (eqb-false _ _ m) (leb-false _ clock h))));
       remote = λ up z. no (noRemote (up-told (s .state) up) z);
       conditions = forced _ (λ z. no (conditionsUnsound (conditions-unsound (s .conditions) clock .0 z)));
+      group = forced _ (λ z. no (groupUnfit (group-unfit (s .settings .label) (s .group) .0 z)));
     }
   where
     no : UnsoundSession s clock → ⊥
@@ -82,6 +87,7 @@ says-sound s clock x = forced (sessionSound s clock) (λ e. no (session-unsound 
     no (crossedAbove m h) = true-false (x .crossed) (rw (ne-eqb _ 0 m, lt-leb _ clock h))
     no (conditionsUnsound w) = true-false (x .conditions) (conditions-unsound (s .conditions) clock .1 w)
     no (noRemote u z) = x .remote (told-up (s .state) u) z
+    no (groupUnfit w) = true-false (x .group) (group-unfit (s .settings .label) (s .group) .1 w)
 
 -- a crossing's date at a later clock
 date-later : (crossing crossed now later : ℕ) → now ≤ later → eqb crossing 0 || leb crossed now ≡ true → eqb crossing 0 || leb crossed later ≡ true
@@ -108,6 +114,7 @@ opened-sound settings reading e =
       crossed = refl;
       remote = λ up z. no-way up refl;
       conditions = unfold conditionsSound placesSound placeSound noClash clash in refl;
+      group = unfold groupFits in refl;
     })
 
 module _ (s : Session) (clock reading : ℕ) (h : clock ≤ reading) (sound : sessionSound s clock ≡ true) where
@@ -126,11 +133,17 @@ module _ (s : Session) (clock reading : ℕ) (h : clock ≤ reading) (sound : se
         crossed = date-later (s .crossing) (s .crossed) clock reading h (x .crossed);
         remote = x .remote;
         conditions = sound-later clock reading h (s .conditions) (x .conditions);
+        group = x .group;
       }
 
   -- a record whose clock only goes on
   pub kept-sound : sessionSound s reading ≡ true
   kept-sound = says-sound s reading at-reading
+
+  -- the group at the reading
+  group-kept : groupFits (s .settings .label) (groupAt s reading) ≡ true
+  unfolding groupAt
+  group-kept = after-fits (s .settings .label) (GivenTimer (lossAt s reading)) (s .group) (at-reading .group)
 
   -- a state that comes up only where the record did keeps its remote discriminator
   remote-kept : (to : State) → (isComingUp to ≡ true → isComingUp (stateOf (s .state)) ≡ true) → isComingUp (stateOf (stored to)) ≡ true → s .peer .remote ≡ 0 → ⊥
@@ -152,13 +165,14 @@ module _ (s : Session) (clock reading : ℕ) (h : clock ≤ reading) (sound : se
         crossed = x .crossed;
         conditions = x .conditions;
         remote = remote-kept (stateAt s reading) (coming-up-before s reading);
+        group = group-kept;
       })
 
-  pub locked-sound : sessionSound (lockedBy s) reading ≡ true
-  unfolding lockedBy
+  pub locked-sound : sessionSound (lockedAt s reading) reading ≡ true
+  unfolding lockedAt
   locked-sound =
       let x = at-reading in
-      says-sound (lockedBy s) reading
+      says-sound (lockedAt s reading) reading
       (record {
         settings = x .settings;
         state = omega arith;
@@ -170,6 +184,7 @@ module _ (s : Session) (clock reading : ℕ) (h : clock ≤ reading) (sound : se
         crossed = x .crossed;
         conditions = x .conditions;
         remote = λ up z. no-way up refl;
+        group = group-kept;
       })
 
   unlocked-up : isComingUp (cond (lockedIn s) Down (stateAt s reading)) ≡ true → isComingUp (stateOf (s .state)) ≡ true
@@ -191,6 +206,7 @@ module _ (s : Session) (clock reading : ℕ) (h : clock ≤ reading) (sound : se
         crossed = x .crossed;
         conditions = x .conditions;
         remote = remote-kept (cond (lockedIn s) Down (stateAt s reading)) unlocked-up;
+        group = group-kept;
       })
 
   -- a CC that its reader accepts
@@ -210,6 +226,7 @@ module _ (s : Session) (clock reading : ℕ) (h : clock ≤ reading) (sound : se
         crossed = x .crossed;
         conditions = x .conditions;
         remote = λ up z. my z;
+        group = group-kept;
       })
 
   pub heard-cv-sound : sessionSound (heardCv s reading) reading ≡ true
@@ -228,6 +245,7 @@ module _ (s : Session) (clock reading : ℕ) (h : clock ≤ reading) (sound : se
         crossed = x .crossed;
         conditions = x .conditions;
         remote = remote-kept (stateAt s reading) (coming-up-before s reading);
+        group = group-kept;
       })
 
   -- an input that brings no session up does not bring this one up either
@@ -250,6 +268,7 @@ module _ (s : Session) (clock reading : ℕ) (h : clock ≤ reading) (sound : se
         crossed = le-leb reading reading (omega arith);
         conditions = x .conditions;
         remote = remote-kept (movedIn (modeIn (s .settings)) (stateAt s reading) Crossed) (not-raised byCrossed);
+        group = after-fits (s .settings .label) CrossedOn (groupAt s reading) group-kept;
       })
 
   -- LDI and LKR bring no session up
@@ -276,6 +295,7 @@ module _ (s : Session) (clock reading : ℕ) (h : clock ≤ reading) (sound : se
         crossed = x .crossed;
         conditions = taken-sound (s .conditions) f reading k l u (x .conditions);
         remote = remote-kept to (fault-up (actsOn (s .settings) f) (f .kind));
+        group = group-kept;
       })
 
   pub written-sound : sessionSound (replySettled s) reading ≡ true
@@ -294,4 +314,5 @@ module _ (s : Session) (clock reading : ℕ) (h : clock ≤ reading) (sound : se
         crossed = x .crossed;
         conditions = x .conditions;
         remote = x .remote;
+        group = x .group;
       })

@@ -11,10 +11,11 @@ use Rattle.rules.specs.States.{isComingUp, stateOf}
 use Rattle.rules.proofs.Bools.{split, no-way}
 use Rattle.rules.proofs.Failing.{one-fails, both-fail, and-false, nought, nought-fails}
 use Rattle.rules.proofs.Unfit.{settings-unfit}
+use Rattle.homing.proofs.Fits.{group-unfit}
 use Rattle.conditions.proofs.Unsound.{conditions-unsound}
 use Rattle.session.specs.declared.Session.{Session}
-use Rattle.session.specs.Soundness.{ownFits, sessionSound}
-use Rattle.session.specs.Unsound.{UnsoundSession, settingsUnfit, stateAbove, noMultiplier, diagnosticAbove, owedMark, crossingMark, timedAbove, crossedAbove, conditionsUnsound, noRemote}
+use Rattle.session.specs.Soundness.{ownFits, ungroupedSound, sessionSound}
+use Rattle.session.specs.Unsound.{UnsoundSession, settingsUnfit, stateAbove, noMultiplier, diagnosticAbove, owedMark, crossingMark, timedAbove, crossedAbove, conditionsUnsound, noRemote, groupUnfit}
 
 -- INIT is 2 and UP is 3
 pub up-told : (n : ℕ) → isComingUp (stateOf n) ≡ true → (n ≡ 2) ⊎ (n ≡ 3)
@@ -45,13 +46,15 @@ module _ (r : Session) (clock : ℕ) where
       (both-fail (λ u e. noRemote (up-told _ (not-false _ u)) (nought _ e)))
 
   told : sessionSound r clock ≡ false → UnsoundSession r clock
-  unfolding sessionSound
+  unfolding sessionSound ungroupedSound
   told =
-      one-fails (one-fails (λ e. settingsUnfit (settings-unfit (r .settings) .0 e)) own-told)
-      (λ e. conditionsUnsound (conditions-unsound (r .conditions) clock .0 e))
+      one-fails
+      (one-fails (one-fails (λ e. settingsUnfit (settings-unfit (r .settings) .0 e)) own-told)
+      (λ e. conditionsUnsound (conditions-unsound (r .conditions) clock .0 e)))
+      (λ e. groupUnfit (group-unfit (r .settings .label) (r .group) .0 e))
 
   untold : UnsoundSession r clock → sessionSound r clock ≡ false
-  unfolding sessionSound ownFits
+  unfolding sessionSound ungroupedSound ownFits
   untold (settingsUnfit w) = rw (settings-unfit (r .settings) .1 w)
   untold (stateAbove h) = simp (lt-leb (r .state) 4 h, and-false)
   untold (noMultiplier h) = simp (lt-leb 1 (r .peer .multiplier) (omega arith), and-false)
@@ -62,6 +65,7 @@ module _ (r : Session) (clock : ℕ) where
   untold (crossedAbove m h) = simp (ne-eqb (r .crossing) 0 m, lt-leb (r .crossed) clock h, and-false)
   untold (conditionsUnsound w) = simp (conditions-unsound (r .conditions) clock .1 w, and-false)
   untold (noRemote u z) = simp (told-up (r .state) u, nought-fails (r .peer .remote) z, and-false)
+  untold (groupUnfit w) = simp (group-unfit (r .settings .label) (r .group) .1 w, and-false)
 
   -- 26, one open record
   pub session-unsound : (sessionSound r clock ≡ false) ↔ UnsoundSession r clock

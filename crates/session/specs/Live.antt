@@ -12,8 +12,9 @@ use Rattle.bfd.specs.Reception.{ccBodyRefusal}
 use Rattle.cv.specs.Cv.{cvBodyRefusal, sourceOf}
 use Rattle.fault.specs.declared.Fault.{Fault}
 use Rattle.fault.specs.Message.{faultRefusal, faultOf}
+use Rattle.coordination.specs.Message.{dhcChannel}
 use Rattle.message.specs.declared.Message.the-variants.{ContinuityCheck, ConnectivityVerification}
-use Rattle.message.specs.Message.{byChannel, messageRefusal, messageOf}
+use Rattle.message.specs.Message.{byChannel, unheardDhc, messageRefusal, messageOf}
 use Rattle.rules.specs.declared.Received.{Received}
 use Rattle.rules.specs.Received.{receivedAs}
 use Rattle.conditions.specs.Taking.{faultAnswer}
@@ -42,7 +43,7 @@ isFault m = eqb (headerRefusal m) 0 && eqb (channelOf m) faultChannel
 
 -- what a BFD message can change of a record
 abbrev pub liveOf : Session → Live
-liveOf s = record { timed = s .timed; crossed = s .crossed; peer = s .peer; state = s .state; crossing = s .crossing }
+liveOf s = record { timed = s .timed; crossed = s .crossed; peer = s .peer; state = s .state; crossing = s .crossing; group = s .group }
 
 -- a record with that put into it
 abbrev pub putLive : Session → Live → Session
@@ -55,6 +56,7 @@ putLive s live =
       peer = live .peer;
       state = live .state;
       crossing = live .crossing;
+      group = live .group;
     }
 
 -- the record with what a BFD message changed
@@ -82,11 +84,15 @@ unfoldable pub cvActed : Session → List ℕ → ℕ → Acted
 cvActed s m reading =
     actedBy s reading (cvBodyRefusal m) (receivedAs (s .settings) (ConnectivityVerification (packetOf m) (sourceOf m)))
 
--- a CC or CV: its header first, then by its channel; any other message is refused 5
+-- a message that is no CC, no CV and no fault message: a DHC message, which no session takes, by its own refusals, and 5 for any other
+abbrev pub otherRefusal : List ℕ → ℕ
+otherRefusal m = cond (eqb (channelOf m) dhcChannel) (unheardDhc m) 5
+
+-- a CC or CV: its header first, then by its channel; any other message is refused
 unfoldable pub bfdActed : Session → List ℕ → ℕ → Acted
 bfdActed s m reading =
     cond (eqb (headerRefusal m) 0)
-    (byChannel (channelOf m) (ccActed s m reading) (cvActed s m reading) (actedOf s 5))
+    (byChannel (channelOf m) (ccActed s m reading) (cvActed s m reading) (actedOf s (otherRefusal m)))
     (actedOf s (headerRefusal m))
 
 -- the record with what a fault message changed
@@ -100,11 +106,12 @@ withFault s f =
       peer = s .peer;
       state = f .state;
       crossing = s .crossing;
+      group = f .group;
     }
 
 -- what a fault message can change, as it is in a record, with an answer
 abbrev pub faultedOf : Session → ℕ → Faulted
-faultedOf s n = record { places = s .conditions; answer = n; state = s .state }
+faultedOf s n = record { places = s .conditions; group = s .group; answer = n; state = s .state }
 
 -- the same, as it is in the record behind the answer n
 abbrev pub faultedUnder : ℕ → Session → Session → Faulted

@@ -14,6 +14,8 @@ use Rattle.rules.specs.Times.{past, within, detectionTime, crossingTime}
 use Rattle.rules.specs.States.{isLocked, downByNeighbor, stateOf}
 use Rattle.rules.specs.Modes.{modeIn, movedIn, isSourceUp, isCoordinated, requiredInterval}
 use Rattle.rules.specs.Diagnostics.{remoteDefect, diagnosticOf, reportOf, packetOut}
+use Rattle.homing.specs.declared.Group.{Group}
+use Rattle.homing.specs.Groups.{fallen}
 use Rattle.conditions.specs.Standing.{countAt, anyFollowed}
 use Rattle.session.specs.declared.Session.{Session}
 use Rattle.rules.specs.declared.Report.{Report}
@@ -44,6 +46,10 @@ heldAt s now = isCoordinated (modeIn (s .settings)) && defectAt s now
 -- the state after TIMER, which a session with a loss has been given at the latest now
 unfoldable pub stateAt : Session → ℕ → State
 stateAt s now = cond (lossAt s now) (movedIn (modeIn (s .settings)) (stateOf (s .state)) Timer) (stateOf (s .state))
+
+-- the group after that: at a loss a working PE has made its PW standby
+unfoldable pub groupAt : Session → ℕ → Group
+groupAt s now = fallen (lossAt s now) (s .group)
 
 -- the report at a clock
 unfoldable pub reportAt : Session → ℕ → Report

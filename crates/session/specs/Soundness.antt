@@ -6,6 +6,7 @@ use lib.Dec.{leb, eqb}
 use Rattle.cv.specs.MepId.{MepSized}
 use Rattle.rules.specs.States.{isComingUp, stateOf}
 use Rattle.rules.specs.Settings.{settingsFit}
+use Rattle.homing.specs.Fitting.{groupFits}
 use Rattle.conditions.specs.Soundness.{conditionsSound}
 use Rattle.session.specs.declared.Session.{Session}
 
@@ -29,8 +30,12 @@ ownFits s clock =
     && datesFit (s .timed) (s .crossing) (s .crossed) clock
     && remoteFits (s .state) (s .peer .remote)
 
+-- all that is asked of a record but of its group
+unfoldable pub ungroupedSound : Session → ℕ → Bool
+ungroupedSound s clock = settingsFit (s .settings) && ownFits s clock && conditionsSound (s .conditions) clock
+
 unfoldable pub sessionSound : Session → ℕ → Bool
-sessionSound s clock = settingsFit (s .settings) && ownFits s clock && conditionsSound (s .conditions) clock
+sessionSound s clock = ungroupedSound s clock && groupFits (s .settings .label) (s .group)
 
 -- the same in the order of the code: what every record is asked, and what a crossing is asked besides
 abbrev pub plainFit : ℕ → ℕ → ℕ → ℕ → Bool

@@ -1,4 +1,5 @@
--- What each accepted call does to a session's record. A record is settled (TIMER, where there is a loss) before its own call acts.
+-- What each accepted call does to a session's record. A record is settled (TIMER, where there is a loss) before its own call acts, and a loss is
+-- looked for in its group where TIMER is given.
 -- Assumes nothing.
 use Prim.Native.Nat.{ℕ}
 use mathlib.Core.Bool.{cond, _||_}
@@ -12,11 +13,12 @@ use Rattle.rules.specs.declared.Input.the-variants.{Crossed}
 use Rattle.rules.specs.States.{heardInput, stored}
 use Rattle.rules.specs.Modes.{modeIn, movedIn}
 use Rattle.rules.specs.Conditions.{actsOn, faultState}
+use Rattle.homing.specs.Groups.{noGroup, crossedBy}
 use Rattle.conditions.specs.Taking.{noConditions, takenIn}
 use Rattle.session.specs.declared.Session.{Session}
-use Rattle.session.specs.Queries.{lockedIn, heldAt, stateAt}
+use Rattle.session.specs.Queries.{lockedIn, heldAt, stateAt, groupAt}
 
--- a new session is DOWN, timed from its opening, with multiplier 3
+-- a new session is DOWN, timed from its opening, with multiplier 3; it has no group, whatever lay in its place
 unfoldable pub newSession : Settings → ℕ → Session
 newSession settings reading =
     record {
@@ -27,6 +29,7 @@ newSession settings reading =
       peer = record { remote = 0; multiplier = 3; diagnostic = 0; owed = 0 };
       state = stored Down;
       crossing = 0;
+      group = noGroup;
     }
 
 -- TIMER
@@ -40,11 +43,12 @@ settled s reading =
       peer = s .peer;
       state = stored (stateAt s reading);
       crossing = s .crossing;
+      group = groupAt s reading;
     }
 
--- lock: ADMIN DOWN; the remote diagnostic and any reply owed are forgotten
-unfoldable pub lockedBy : Session → Session
-lockedBy s =
+-- lock: ADMIN DOWN; the remote diagnostic and any reply owed are forgotten. A locked session has no loss: it is looked for before
+unfoldable pub lockedAt : Session → ℕ → Session
+lockedAt s reading =
     record {
       timed = s .timed;
       crossed = s .crossed;
@@ -53,6 +57,7 @@ lockedBy s =
       peer = record { remote = s .peer .remote; multiplier = s .peer .multiplier; diagnostic = 0; owed = 0 };
       state = stored AdminDown;
       crossing = s .crossing;
+      group = groupAt s reading;
     }
 
 -- unlock: a locked session is DOWN, with multiplier 3, timed from the reading; another is settled
@@ -71,6 +76,7 @@ unlockedAt s reading =
       };
       state = stored (cond (lockedIn s) Down (stateAt s reading));
       crossing = s .crossing;
+      group = groupAt s reading;
     }
 
 -- a heard CC restarts the detection time, gives multiplier, remote discriminator and diagnostic, a reply owed if P is set, and its state as
@@ -90,6 +96,7 @@ heardCc s reading p =
       };
       state = stored (movedIn (modeIn (s .settings)) (stateAt s reading) (heardInput (heldAt s reading) (p .state)));
       crossing = s .crossing;
+      group = groupAt s reading;
     }
 
 -- a heard CV restarts the detection time
@@ -103,9 +110,11 @@ heardCv s reading =
       peer = s .peer;
       state = stored (stateAt s reading);
       crossing = s .crossing;
+      group = groupAt s reading;
     }
 
--- a crossed message: INIT becomes DOWN, and UP of all but a source; the crossing is dated, and the detection time goes on
+-- a crossed message: INIT becomes DOWN, and UP of all but a source; the crossing is dated, and the detection time goes on; a
+-- working PE makes its PW standby
 unfoldable pub crossedAt : Session → ℕ → Session
 crossedAt s reading =
     record {
@@ -116,6 +125,7 @@ crossedAt s reading =
       peer = s .peer;
       state = stored (movedIn (modeIn (s .settings)) (stateAt s reading) Crossed);
       crossing = 1;
+      group = crossedBy (groupAt s reading);
     }
 
 -- an accepted fault message: LDI and LKR act when they arrive
@@ -129,6 +139,7 @@ faultTaken s reading f =
       peer = s .peer;
       state = stored (faultState (modeIn (s .settings)) (actsOn (s .settings) f) (stateAt s reading) (f .kind));
       crossing = s .crossing;
+      group = groupAt s reading;
     }
 
 -- writing a CC settles the reply owed
@@ -142,4 +153,5 @@ replySettled s =
       peer = record { remote = s .peer .remote; multiplier = s .peer .multiplier; diagnostic = s .peer .diagnostic; owed = 0 };
       state = s .state;
       crossing = s .crossing;
+      group = s .group;
     }

@@ -1,10 +1,11 @@
 -- What 26 says of one open record at a clock, in the words of the rules paper: a field out of its range or dated above the clock, two
--- standing conditions of one key, INIT or UP with no remote discriminator.
+-- standing conditions of one key, INIT or UP with no remote discriminator; a group with labels equal or of two parties.
 -- Assumes nothing.
 use Prim.Native.Nat.{ℕ, _<_}
 use mathlib.Core.Path.{_≡_}
 use mathlib.Core.Logic.{_⊎_}
 use Rattle.rules.specs.Unfit.{Unfit}
+use Rattle.homing.specs.Unfit.{UnfitGroup}
 use Rattle.conditions.specs.Unsound.{UnsoundConditions}
 use Rattle.session.specs.declared.Session.{Session}
 
@@ -21,3 +22,4 @@ pub data UnsoundSession (r : Session) (clock : ℕ) : Type 0 where
   crossedAbove : (r .crossing ≡ 0 → ⊥) → clock < r .crossed → UnsoundSession r clock
   conditionsUnsound : UnsoundConditions (r .conditions) clock → UnsoundSession r clock
   noRemote : (r .state ≡ 2) ⊎ (r .state ≡ 3) → r .peer .remote ≡ 0 → UnsoundSession r clock
+  groupUnfit : UnfitGroup (r .settings .label) (r .group) → UnsoundSession r clock

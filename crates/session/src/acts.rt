@@ -1,25 +1,32 @@
 // A received message acts on a record by a small result: what it can change, and its answer.
 use crate::Peer;
 use crate::Session;
+use crate::queries::group_at;
 use crate::queries::held_at;
 use crate::queries::is_locked;
 use crate::queries::state_at;
 use crate::steps::fault_state;
 use bfd::Packet;
 use conditions::Conditions;
+use coordination::DHC_CHANNEL;
 use fault::Fault;
 use fault::FaultAnswer;
 use gach::CC_CHANNEL;
 use gach::CV_CHANNEL;
 use gach::FAULT_CHANNEL;
+use homing::Group;
 use octets::bit;
 use octets::either;
 use octets::get_u16;
 use octets::get_u32;
+use octets::or_else;
 use rules::Input;
 ghost use mathlib.Core.Path.{_≡_};
 ghost use mathlib.Core.Bool.{cond};
+ghost use lib.Dec.{eqb};
 ghost use Rattle.octets.specs.Choice.{orElse};
+ghost use Rattle.coordination.specs.Message.{dhcChannel};
+ghost use Rattle.message.specs.Message.{unheardDhc};
 ghost use Rattle.session.specs.Steps.{heardCc, heardCv, crossedAt};
 ghost use Rattle.session.specs.Reception.{bfdAnswer};
 ghost use Rattle.session.specs.Live.{isFault, liveOf, putLive, withLive, actedOf, ccActed, cvActed, bfdActed, withFault, faultedOf, faultedBy, faultActed};
@@ -31,6 +38,7 @@ pub struct Live {
     pub peer: Peer,
     pub state: u8,
     pub crossing: u8,
+    pub group: Group,
 }
 
 pub struct Acted {
@@ -41,6 +49,7 @@ pub struct Acted {
 // What a fault message can change of a record.
 pub struct Faulted {
     pub places: Conditions,
+    pub group: Group,
     pub answer: u32,
     pub state: u8,
 }
@@ -59,12 +68,14 @@ fn live_of(s: Session) -> Live
     ensures { λ r. ⌜ r ≡ liveOf s ⌝ }
 {
     let peer = s.peer;
+    let group = s.group;
     Live {
         timed: s.timed,
         crossed: s.crossed,
         peer: peer,
         state: s.state,
         crossing: s.crossing,
+        group: group,
     }
 }
 
@@ -72,12 +83,14 @@ fn put_live(s: Session, live: Live) -> Session
     ensures { λ r. ⌜ r ≡ putLive s live ⌝ }
 {
     let peer = live.peer;
+    let group = live.group;
     let mut next = s;
     next.timed = live.timed;
     next.crossed = live.crossed;
     next.peer = peer;
     next.state = live.state;
     next.crossing = live.crossing;
+    next.group = group;
     next
 }
 
@@ -109,6 +122,7 @@ fn cc_live(s: Session, reading: u64, p: Packet) -> Live
         peer: peer,
         state: rules::stored_number(to),
         crossing: s.crossing,
+        group: group_at(s, reading),
     }
 }
 
@@ -120,6 +134,7 @@ fn cv_live(s: Session, reading: u64) -> Live
     let mut live = live_of(s);
     live.timed = reading;
     live.state = state;
+    live.group = group_at(s, reading);
     live
 }
 
@@ -137,6 +152,7 @@ fn crossed_live(s: Session, reading: u64) -> Live
     live.crossed = reading;
     live.crossing = 1;
     live.state = number;
+    live.group = homing::crossed_by(group_at(s, reading));
     live
 }
 
@@ -215,6 +231,16 @@ fn cv_act(s: Session, m: &[u8], reading: u64) -> Acted
     accepted(cv_live(s, reading))
 }
 
+// A DHC message is refused as its reader has it, else 24: no session takes one. 5 for all others.
+fn other_refusal(m: &[u8], channel: u16) -> u32
+    ensures { λ r. ⌜ r ≡ cond (eqb channel dhcChannel) (unheardDhc (now (m .entry))) 5 ⌝ }
+{
+    if channel == DHC_CHANNEL {
+        return or_else(coordination::dhc_refusal(m), 24);
+    }
+    5
+}
+
 // A CC or CV: its header first, then by its channel; any other message is refused.
 pub fn bfd_act(s: Session, m: &[u8], reading: u64) -> Acted
     ensures { λ r. ⌜ r ≡ bfdActed s (now (m .entry)) reading ⌝ }
@@ -230,15 +256,17 @@ pub fn bfd_act(s: Session, m: &[u8], reading: u64) -> Acted
     if channel == CV_CHANNEL {
         return cv_act(s, m, reading);
     }
-    refused(s, 5)
+    refused(s, other_refusal(m, channel))
 }
 
 fn fault_refused(s: Session, n: u32) -> Faulted
     ensures { λ r. ⌜ r ≡ faultedOf s n ⌝ }
 {
     let places = s.conditions;
+    let group = s.group;
     Faulted {
         places: places,
+        group: group,
         answer: n,
         state: s.state,
     }
@@ -256,6 +284,7 @@ fn fault_by(s: Session, reading: u64, f: Fault) -> Faulted
     let state = fault_state(s, reading, f);
     Faulted {
         places: places,
+        group: group_at(s, reading),
         answer: 0,
         state: state,
     }
@@ -277,8 +306,10 @@ pub fn with_fault(s: Session, f: Faulted) -> Session
     ensures { λ r. ⌜ r ≡ withFault s f ⌝ }
 {
     let places = f.places;
+    let group = f.group;
     let mut next = s;
     next.conditions = places;
+    next.group = group;
     next.state = f.state;
     next
 }

@@ -14,11 +14,13 @@ pub use acts::is_fault;
 pub use acts::with_fault;
 pub use acts::with_live;
 use conditions::Conditions;
+use homing::Group;
 pub use queries::cc_octets_at;
 pub use queries::crossing_at;
 pub use queries::cv_octets_at;
 pub use queries::cv_size_of;
 pub use queries::diagnostic_at;
+pub use queries::group_at;
 pub use queries::is_locked;
 pub use queries::loss_at;
 pub use queries::packet_at;
@@ -28,7 +30,7 @@ pub use rules::Report;
 use rules::Settings;
 pub use soundness::session_sound;
 pub use steps::cc_written;
-pub use steps::locked_by;
+pub use steps::locked_at;
 pub use steps::opened_at;
 pub use steps::unlocked_at;
 
@@ -44,8 +46,8 @@ pub struct Peer {
 
 // The record, numbers alone: the reading that it is timed from (opening, real unlock or last heard
 // message), the reading of the last crossed message, the conditions, the settings, the peer, the
-// state (0 to 3 as the rules paper has them, 4 for DOWN by a received state), and 1 where a crossed
-// message came.
+// state (0 to 3 as the rules paper has them, 4 for DOWN by a received state), 1 where a crossed
+// message came, and the dual-homing group of which this is the service PW.
 #[repr(C)]
 pub struct Session {
     pub timed: u64,
@@ -55,4 +57,5 @@ pub struct Session {
     pub peer: Peer,
     pub state: u8,
     pub crossing: u8,
+    pub group: Group,
 }

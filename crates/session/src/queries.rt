@@ -3,6 +3,7 @@ use crate::Session;
 use bfd::Packet;
 use cv::CvOctets;
 use gach::CC_CHANNEL;
+use homing::Group;
 use octets::bit;
 use octets::both;
 use rules::Input;
@@ -12,7 +13,7 @@ ghost use mathlib.Core.Path.{_≡_};
 ghost use mathlib.Core.Bool.{cond};
 ghost use Rattle.rules.specs.States.{moved};
 ghost use Rattle.rules.specs.declared.Input.the-variants.{Timer};
-ghost use Rattle.session.specs.Queries.{lockedIn, lossAt, crossingAt, defectAt, heldAt, stateAt, reportAt, diagnosticAt, packetAt, ccOctetsAt, cvSizeOf, cvWholeAt};
+ghost use Rattle.session.specs.Queries.{lockedIn, lossAt, crossingAt, defectAt, heldAt, stateAt, groupAt, reportAt, diagnosticAt, packetAt, ccOctetsAt, cvSizeOf, cvWholeAt};
 
 pub fn is_locked(s: Session) -> bool
     ensures { λ r. ⌜ r ≡ lockedIn s ⌝ }
@@ -91,6 +92,14 @@ pub fn state_at(s: Session, now: u64) -> State
 {
     let loss = loss_at(s, now);
     after_timer(loss, rules::state_of(s.state))
+}
+
+// The group at a clock: a loss has made a working PE's PW standby.
+pub fn group_at(s: Session, now: u64) -> Group
+    ensures { λ r. ⌜ r ≡ groupAt s now ⌝ }
+{
+    let group = s.group;
+    homing::fallen_at(group, loss_at(s, now))
 }
 
 // The seven numbers of the report.

@@ -3,7 +3,7 @@
 // asked of a record that has neither.
 use crate::Session;
 ghost use mathlib.Core.Path.{_≡_};
-ghost use Rattle.session.specs.Soundness.{plainFit, crossingFits, calm, remoteFits, ownPlain, sessionSound};
+ghost use Rattle.session.specs.Soundness.{plainFit, crossingFits, calm, remoteFits, ownPlain, ungroupedSound, sessionSound};
 
 fn plain_fit(state: u8, multiplier: u8, diagnostic: u8, owed: u8) -> bool
     ensures { λ r. ⌜ r ≡ plainFit state multiplier diagnostic owed ⌝ }
@@ -71,9 +71,9 @@ fn own_plain(s: Session, clock: u64) -> bool
     false
 }
 
-// The clauses of 26 for one record at a clock.
-pub fn session_sound(s: Session, clock: u64) -> bool
-    ensures { λ r. ⌜ r ≡ sessionSound s clock ⌝ }
+// The clauses of 26 for one record at a clock, but those of its group.
+fn ungrouped_sound(s: Session, clock: u64) -> bool
+    ensures { λ r. ⌜ r ≡ ungroupedSound s clock ⌝ }
 {
     let settings = s.settings;
     if rules::settings_fit(settings) {
@@ -92,6 +92,17 @@ pub fn session_sound(s: Session, clock: u64) -> bool
                 return conditions::conditions_sound(places, clock);
             }
         }
+    }
+    false
+}
+
+// The clauses of 26 for one record at a clock.
+pub fn session_sound(s: Session, clock: u64) -> bool
+    ensures { λ r. ⌜ r ≡ sessionSound s clock ⌝ }
+{
+    let group = s.group;
+    if homing::group_fits(s.settings.label, group) {
+        return ungrouped_sound(s, clock);
     }
     false
 }

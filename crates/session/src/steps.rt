@@ -1,6 +1,7 @@
 // What each accepted call does to a session's record.
 use crate::Peer;
 use crate::Session;
+use crate::queries::group_at;
 use crate::queries::is_locked;
 use crate::queries::state_at;
 use fault::Fault;
@@ -14,13 +15,14 @@ ghost use Rattle.rules.specs.States.{stored};
 ghost use Rattle.rules.specs.Modes.{modeIn};
 ghost use Rattle.rules.specs.Conditions.{actsOn, faultState};
 ghost use Rattle.session.specs.Queries.{stateAt};
-ghost use Rattle.session.specs.Steps.{newSession, lockedBy, unlockedAt, replySettled};
+ghost use Rattle.session.specs.Steps.{newSession, lockedAt, unlockedAt, replySettled};
 
 // A new session.
 pub fn opened_at(settings: Settings, reading: u64) -> Session
     ensures { λ r. ⌜ r ≡ newSession settings reading ⌝ }
 {
     let none = conditions::no_conditions();
+    let group = homing::no_group();
     let peer = Peer {
         remote: 0,
         multiplier: 3,
@@ -35,14 +37,17 @@ pub fn opened_at(settings: Settings, reading: u64) -> Session
         peer: peer,
         state: 1,
         crossing: 0,
+        group: group,
     }
 }
 
-// Lock.
-pub fn locked_by(s: Session) -> Session
-    ensures { λ r. ⌜ r ≡ lockedBy s ⌝ }
+// Lock. A loss is looked for first: a locked session has none.
+pub fn locked_at(s: Session, reading: u64) -> Session
+    ensures { λ r. ⌜ r ≡ lockedAt s reading ⌝ }
 {
+    let group = group_at(s, reading);
     let mut next = s;
+    next.group = group;
     next.state = 0;
     next.peer.diagnostic = 0;
     next.peer.owed = 0;
@@ -85,7 +90,9 @@ pub fn unlocked_at(s: Session, reading: u64) -> Session
     let number = rules::stored_number(state);
     let multiplier = unlocked_multiplier(locked, s.peer.multiplier);
     let timed = unlocked_date(locked, reading, s.timed);
+    let group = group_at(s, reading);
     let mut next = s;
+    next.group = group;
     next.state = number;
     next.peer.multiplier = multiplier;
     next.timed = timed;

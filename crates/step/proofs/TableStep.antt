@@ -27,7 +27,7 @@ use Rattle.rules.proofs.TwoParties.{party-most}
 use Rattle.session.specs.declared.Session.{Session}
 use Rattle.session.specs.Queries.{reportAt, ccOctetsAt, cvOctetsAt, cvSizeOf, cvWholeAt}
 use Rattle.session.proofs.Written.{cv-size, cv-front}
-use Rattle.session.specs.Steps.{newSession, lockedBy, unlockedAt, replySettled}
+use Rattle.session.specs.Steps.{newSession, lockedAt, unlockedAt, replySettled}
 use Rattle.table.specs.declared.Head.{Head}
 use Rattle.table.specs.Places.{firstOn, occupiedAt, withPlace, withoutPlace, lowestFree, opens, hasLabel, placeOf}
 use Rattle.table.specs.Table.{Table, openBy, inOrder, find, isFound, absent, rivals, openAnswer, asked, answer, actAnswer, done, actDone, altered, added, closed, next}
@@ -188,7 +188,7 @@ module _ (row : List Session) (head : Head) (long : length row < 2 ^ 64) where
           let w = need-passed (isPlace (s .place)) 1 0 (bar-passed (late (head .clock) u) 0 _ e .1) in
           let h : placeOf l (head .occupied) row < length row = omega (arith, ltb-true (s .place) 64 (w .0), at, full) in
           rw (kept r, w .0, at, ← without-taken (head .occupied) (placeOf l (head .occupied) row) (place-taken l (head .occupied) row h))
-      act-left full (Lock u) k e = stored lockedBy u
+      act-left full (Lock u) k e = stored (λ r. lockedAt r u) u
       act-left full (Unlock u) k e = stored (λ x. unlockedAt x u) u
       act-left full (Receive m u) k e = no-way k refl
       act-left full ReportOn k e = rw (kept r)

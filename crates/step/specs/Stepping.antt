@@ -13,7 +13,7 @@ use Rattle.rules.specs.Times.{late}
 use Rattle.rules.specs.Settings.{settingsFit}
 use Rattle.session.specs.declared.Session.{Session}
 use Rattle.session.specs.Queries.{reportAt, ccOctetsAt, cvSizeOf, cvWholeAt}
-use Rattle.session.specs.Steps.{newSession, lockedBy, unlockedAt, replySettled}
+use Rattle.session.specs.Steps.{newSession, lockedAt, unlockedAt, replySettled}
 use Rattle.table.specs.declared.Head.{Head}
 use Rattle.table.specs.Places.{lowestFree, withPlace, withoutPlace}
 use Rattle.table.specs.Table.{Table, absent}
@@ -92,7 +92,7 @@ storedAt place (WriteCv l n) = nowhere
 unfoldable pub effectOn : Request → Session → Session
 effectOn (Tick u) r = r
 effectOn (Close l u) r = r
-effectOn (Lock l u) r = lockedBy r
+effectOn (Lock l u) r = lockedAt r u
 effectOn (Unlock l u) r = unlockedAt r u
 effectOn (ReportOn l) r = r
 effectOn (WriteCc l n) r = replySettled r

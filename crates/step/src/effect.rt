@@ -73,7 +73,7 @@ pub fn acted_by(q: Request, r: Session) -> Session
     match q {
         Request::Tick(_) => r,
         Request::Close(_, _) => r,
-        Request::Lock(_, _) => session::locked_by(r),
+        Request::Lock(_, u) => session::locked_at(r, u),
         Request::Unlock(_, u) => session::unlocked_at(r, u),
         Request::ReportOn(_) => r,
         Request::WriteCc(_, _) => session::cc_written(r),

@@ -10,15 +10,16 @@ use borrow.Author.Tests.{eqb-true, eqb-false, not-true, not-false, eq-eqb, ne-eq
 use Rattle.rules.specs.Parties.{ownMost}
 use Rattle.rules.specs.Lists.{any, once}
 use Rattle.rules.specs.Calls.{Call, numberOnly}
-use Rattle.rules.proofs.Bools.{split, refuted}
+use Rattle.octets.proofs.Chain.{and-both}
+use Rattle.rules.proofs.Bools.{split, both-true, refuted}
 use Rattle.rules.proofs.Failing.{one-fails, and-false}
-use Rattle.rules.proofs.TwoParties.{same-own}
+use Rattle.rules.proofs.TwoParties.{same-number, same-own}
 use Rattle.session.specs.declared.Session.{Session}
 use Rattle.session.specs.Soundness.{sessionSound}
 use Rattle.session.proofs.Unsound.{session-unsound}
 use Rattle.table.specs.Places.{occupiedAt}
-use Rattle.table.specs.Table.{Table, openOf, sameLabel, sameDiscriminator, inOrder, asked, answer, absent}
-use Rattle.table.specs.Disorder.{recordAt, OpenAt, Disorder, notOf64, recordUnsound, labelShared, discriminatorShared, tooMany}
+use Rattle.table.specs.Table.{Table, openOf, sameLabel, sameDiscriminator, sameGroup, inOrder, asked, answer, absent}
+use Rattle.table.specs.Disorder.{recordAt, OpenAt, Disorder, notOf64, recordUnsound, labelShared, discriminatorShared, tooMany, groupShared}
 use Rattle.table.proofs.Numbers.{asked-most}
 use Rattle.table.proofs.OpenPlaces.{any-held, held-any, once-two, two-once}
 use Rattle.table.proofs.Order.{order-says}
@@ -51,10 +52,18 @@ module _ (t : Table) where
     two-untold i j b o u e =
         two-once same absent (t .occupied) (t .row) i j b (u .inside) (is-occupied i o) (is-occupied j u) e
 
+  group-told : (i j : ℕ) → i < j → OpenAt t i → OpenAt t j → sameGroup (recordAt t i) (recordAt t j) ≡ true → Disorder t
+  group-told i j b o u e =
+      let a = and-both _ _ e in
+      let g = and-both _ _ (a .0) in
+      let w = same-number (recordAt t i .settings .label) (recordAt t j .settings .label) (recordAt t i .group .id) (recordAt t j .group .id) .0 (eqb-true _ _ (a .1)) in
+      groupShared i j b o u (eqb-true _ 1 (g .0)) (eqb-true _ 1 (g .1)) (w .0) (w .1)
+
   told : inOrder t ≡ false → Disorder t
   unfolding inOrder
   told =
       one-fails
+      (one-fails
       (one-fails
       (one-fails
       (one-fails (one-fails (λ e. notOf64 (eqb-false _ 64 e)) unsound-told)
@@ -64,7 +73,8 @@ module _ (t : Table) where
       let w = same-own (recordAt t i .settings) (recordAt t j .settings) .0 (eqb-true _ _ e) in
       discriminatorShared i j b o u (w .0) (w .1))))
       (λ e. tooMany 0 (leb-false _ ownMost e)))
-      (λ e. tooMany 1 (leb-false _ ownMost e))
+      (λ e. tooMany 1 (leb-false _ ownMost e)))
+      (two-told sameGroup (Disorder t) group-told)
 
   untold : Disorder t → inOrder t ≡ false
   unfolding inOrder
@@ -78,6 +88,9 @@ module _ (t : Table) where
   untold (labelShared i j b o u e) = simp (two-untold sameLabel i j b o u (eq-eqb _ _ e), and-false)
   untold (discriminatorShared i j b o u p e) =
       simp (two-untold sameDiscriminator i j b o u (eq-eqb _ _ (same-own (recordAt t i .settings) (recordAt t j .settings) .1 (p, e))), and-false)
+  untold (groupShared i j b o u g h p e) =
+      let w = same-number (recordAt t i .settings .label) (recordAt t j .settings .label) (recordAt t i .group .id) (recordAt t j .group .id) .1 (p, e) in
+      simp (two-untold sameGroup i j b o u (both-true (both-true (eq-eqb _ 1 g) (eq-eqb _ 1 h)) (eq-eqb _ _ w)), and-false)
   untold (tooMany p h) = refuted (inOrder t) (λ z. omega (arith, order-says t z .each p, h))
 
   pub table-disorder : (inOrder t ≡ false) ↔ Disorder t

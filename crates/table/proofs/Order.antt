@@ -24,14 +24,16 @@ use Rattle.rules.proofs.Ages.{not-late}
 use Rattle.rules.proofs.Lists.{none-only}
 use Rattle.rules.proofs.TwoParties.{party-most, no-party}
 use Rattle.session.specs.declared.Session.{Session}
-use Rattle.session.specs.Steps.{lockedBy, unlockedAt, replySettled}
+use Rattle.session.specs.Queries.{groupAt}
+use Rattle.session.specs.Steps.{lockedAt, unlockedAt, replySettled}
 use Rattle.session.specs.Soundness.{sessionSound}
 use Rattle.session.proofs.Sound.{opened-sound, kept-sound, locked-sound, unlocked-sound, written-sound}
-use Rattle.session.proofs.Received.{received-sound, received-keeps}
-use Rattle.table.specs.Table.{Table, openOf, sameLabel, sameDiscriminator, openBy, every, inOrder, find, receiveAnswer, actAnswer, asked, answer, absent, altered, added, closed, receiving, actDone, done, next}
+use Rattle.session.proofs.Received.{received-sound, received-keeps, received-group}
+use Rattle.table.specs.Table.{Table, openOf, sameLabel, sameDiscriminator, sameGroup, openBy, every, inOrder, find, receiveAnswer, actAnswer, asked, answer, absent, altered, added, closed, receiving, actDone, done, next}
 use Rattle.table.proofs.Rows.{opens-altered}
 use Rattle.table.proofs.Every.{every-on, every-update, every-inserted}
 use Rattle.table.proofs.Apart.{added-one, closed-one, no-label, no-discriminator, altered-apart, added-apart, closed-apart}
+use Rattle.table.proofs.GroupsApart.{SameId, altered-groups, added-groups, closed-groups}
 use Rattle.table.proofs.Shares.{altered-count, place-left, added-each, closed-each}
 use Rattle.table.proofs.Accepted.{OpenPassed, open-passed, found-passed, received-read}
 
@@ -42,6 +44,7 @@ pub record Ordered (t : Table) : Type 0 where
   pub labels : once sameLabel (openOf t) ≡ true
   pub discriminators : once sameDiscriminator (openOf t) ≡ true
   pub each : (p : ℕ) → openBy p t ≤ ownMost
+  pub groups : once sameGroup (openOf t) ≡ true
 
 -- nobody but the two has anything open
 nobody : (p : ℕ) (rs : List Session) → any (λ (r : Session). isOf (suc (suc p)) (r .settings .label)) rs ≡ false
@@ -58,7 +61,8 @@ each-says t a b (suc (suc p)) =
 pub order-says : (t : Table) → inOrder t ≡ true → Ordered t
 unfolding inOrder
 order-says t e =
-    let theirs = and-both _ (leb (openBy 1 t) ownMost) e in
+    let all = and-both _ (once sameGroup (openOf t)) e in
+    let theirs = and-both _ (leb (openBy 1 t) ownMost) (all .0) in
     let ours = and-both _ (leb (openBy 0 t) ownMost) (theirs .0) in
     let a = and-both _ _ (ours .0) in
     let b = and-both _ _ (a .0) in
@@ -69,6 +73,7 @@ order-says t e =
       labels = b .1;
       discriminators = a .1;
       each = each-says t (leb-true _ _ (ours .1)) (leb-true _ _ (theirs .1));
+      groups = all .1;
     }
 
 pub says-order : (t : Table) → Ordered t → inOrder t ≡ true
@@ -76,9 +81,11 @@ unfolding inOrder
 says-order t o =
     both-true
     (both-true
+    (both-true
     (both-true (both-true (both-true (eq-eqb (length (t .row)) 64 (o .rows)) (o .sound)) (o .labels)) (o .discriminators))
     (le-leb _ _ (o .each 0)))
-    (le-leb _ _ (o .each 1))
+    (le-leb _ _ (o .each 1)))
+    (o .groups)
 
 module _ (t : Table) (o : Ordered t) where
   -- the clock goes on
@@ -86,12 +93,12 @@ module _ (t : Table) (o : Ordered t) where
   sound-on u h = every-on (λ r. sessionSound r (t .clock)) (λ r. sessionSound r u) (λ r e. kept-sound r (t .clock) u h e) (openOf t) (o .sound)
 
   order-ticked : (u : ℕ) → t .clock ≤ u → Ordered (record { row = t .row; clock = u; occupied = t .occupied })
-  order-ticked u h = record { rows = o .rows; sound = sound-on u h; labels = o .labels; discriminators = o .discriminators; each = o .each }
+  order-ticked u h = record { rows = o .rows; sound = sound-on u h; labels = o .labels; discriminators = o .discriminators; each = o .each; groups = o .groups }
 
-  -- the record of a label altered: its settings stay, and it is sound at the reading
-  order-altered : (l u : ℕ) (f : Session → Session) → t .clock ≤ u → ((r : Session) → f r .settings ≡ r .settings)
+  -- the record of a label altered: its settings stay, its group stays one of its ID or none, and it is sound at the reading
+  pub order-altered : (l u : ℕ) (f : Session → Session) → t .clock ≤ u → ((r : Session) → f r .settings ≡ r .settings) → ((r : Session) → SameId (f r) r)
       → ((r : Session) → find l (openOf t) ≡ some r → sessionSound r (t .clock) ≡ true → sessionSound (f r) u ≡ true) → Ordered (altered t l f u)
-  order-altered l u f h k m =
+  order-altered l u f h k i m =
       record {
         rows = unfold altered in simp length-set (o .rows);
         sound =
@@ -101,6 +108,7 @@ module _ (t : Table) (o : Ordered t) where
         labels = altered-apart (λ g. g .label) t l u f k ∙ o .labels;
         discriminators = altered-apart ownDiscriminator t l u f k ∙ o .discriminators;
         each = λ p. omega (arith, altered-count t l u f k p, o .each p);
+        groups = altered-groups t l u f k i ∙ o .groups;
       }
 
   -- a new record, which has no rival
@@ -113,6 +121,7 @@ module _ (t : Table) (o : Ordered t) where
         labels = added-apart (λ s. s .label) g u i (no-label g (openOf t) (p .unrivalled)) (o .labels);
         discriminators = added-apart ownDiscriminator g u i (no-discriminator g (openOf t) (p .unrivalled)) (o .discriminators);
         each = λ q. added-each g u i q (o .each q) (λ e f. p .room (ap (λ (x : ℕ). openBy x t) e ∙ f));
+        groups = added-groups g u i (o .groups);
       }
 
   -- a place given back: one open record less
@@ -125,6 +134,7 @@ module _ (t : Table) (o : Ordered t) where
         labels = closed-apart (λ s. s .label) r i (o .labels) .1;
         discriminators = closed-apart ownDiscriminator r i (o .discriminators) .1;
         each = λ q. closed-each r i q (o .each q);
+        groups = closed-groups r i (o .groups) .1;
       }
 
   -- an accepted act
@@ -135,18 +145,19 @@ module _ (t : Table) (o : Ordered t) where
       order-closed l u (p .1 .0) (p .0) (p .1 .1)
   act-ordered l (Lock u) e =
       let h = found-passed (t .clock) u (find l (openOf t)) (eqb-true _ 0 e) .0 in
-      order-altered l u lockedBy h (λ r. unfold lockedBy in refl) (λ r f s. locked-sound r (t .clock) u h s)
+      order-altered l u (λ r. lockedAt r u) h (λ r. unfold lockedAt in refl) (λ r. unfold lockedAt groupAt in (refl, refl)) (λ r f s. locked-sound r (t .clock) u h s)
   act-ordered l (Unlock u) e =
       let h = found-passed (t .clock) u (find l (openOf t)) (eqb-true _ 0 e) .0 in
-      order-altered l u (λ r. unlockedAt r u) h (λ r. unfold unlockedAt in refl) (λ r f s. unlocked-sound r (t .clock) u h s)
+      order-altered l u (λ r. unlockedAt r u) h (λ r. unfold unlockedAt in refl) (λ r. unfold unlockedAt groupAt in (refl, refl)) (λ r f s. unlocked-sound r (t .clock) u h s)
   act-ordered l (Receive m u) e =
       let b = bar-passed (late (t .clock) u) 0 (receiveAnswer (find l (openOf t)) m u) (eqb-true _ 0 e) in
       let h = not-late (t .clock) u (b .0) in
       order-altered l u (receiving m u) h (λ r. received-keeps r u (receivedAs (r .settings) (messageOf m)))
+      (λ r. received-group r u (receivedAs (r .settings) (messageOf m)))
       (λ r f s. received-sound r (t .clock) u h s (messageOf m) (read-in-range m (received-read m u (find l (openOf t)) r f (b .1))))
   act-ordered l ReportOn e = o
   act-ordered l (WriteCc b) e =
-      order-altered l (t .clock) replySettled (omega arith) (λ r. unfold replySettled in refl) (λ r f s. written-sound r (t .clock) (t .clock) (omega arith) s)
+      order-altered l (t .clock) replySettled (omega arith) (λ r. unfold replySettled in refl) (λ r. unfold replySettled in (refl, refl)) (λ r f s. written-sound r (t .clock) (t .clock) (omega arith) s)
   act-ordered l (WriteCv b) e = o
 
   -- an accepted call

@@ -17,12 +17,12 @@ use Rattle.rules.specs.declared.Settings.{Settings}
 use Rattle.rules.specs.Times.{late}
 use Rattle.rules.specs.Settings.{settingsFit}
 use Rattle.rules.specs.Received.{receivedAs}
-use Rattle.rules.specs.Parties.{partyOf, isOf, ownMost, ownDiscriminator}
+use Rattle.rules.specs.Parties.{partyOf, isOf, ownMost, ownNumber, ownDiscriminator}
 use Rattle.rules.specs.Lists.{any, only, once}
 use Rattle.rules.specs.Calls.{Act, Close, Lock, Unlock, Receive, ReportOn, WriteCc, WriteCv, Call, Tick, Open, On, Said, isAccepted, numberOnly, reporting, writes}
 use Rattle.session.specs.declared.Session.{Session}
 use Rattle.session.specs.Queries.{reportAt, ccOctetsAt, cvOctetsAt}
-use Rattle.session.specs.Steps.{newSession, lockedBy, unlockedAt, replySettled}
+use Rattle.session.specs.Steps.{newSession, lockedAt, unlockedAt, replySettled}
 use Rattle.session.specs.Reception.{receivedAnswer, receivedBy}
 use Rattle.session.specs.Soundness.{sessionSound}
 use Rattle.table.specs.Places.{lowestFree, opens, hasLabel, placeOf}
@@ -42,6 +42,16 @@ sameLabel a b = eqb (a .settings .label) (b .settings .label)
 abbrev pub sameDiscriminator : Session → Session → Bool
 sameDiscriminator a b = eqb (ownDiscriminator (a .settings)) (ownDiscriminator (b .settings))
 
+-- a group counts within its party too: both records have one, of one party and one ID
+abbrev pub hasGroup : Session → Bool
+hasGroup r = eqb (r .group .set) 1
+
+abbrev pub ownGroup : Session → ℕ
+ownGroup r = ownNumber (r .settings .label) (r .group .id)
+
+abbrev pub sameGroup : Session → Session → Bool
+sameGroup a b = (hasGroup a && hasGroup b) && eqb (ownGroup a) (ownGroup b)
+
 -- how many sessions of a party are open
 abbrev pub openBy : ℕ → Table → ℕ
 openBy p t = length (only (λ r. isOf p (r .settings .label)) (openOf t))
@@ -51,12 +61,13 @@ abbrev pub every : (Session → Bool) → List Session → Bool
 every p rs = not (any (λ r. not (p r)) rs)
 
 -- 26 is for a table that is not in order: 64 records, each open one sound at the clock, no two with one label, no two of one party with one
--- discriminator, and of either party no more than 32
+-- discriminator, of either party no more than 32, and no two groups of one party with one ID
 unfoldable pub inOrder : Table → Bool
 inOrder t =
     eqb (length (t .row)) 64 && every (λ r. sessionSound r (t .clock)) (openOf t)
     && once sameLabel (openOf t) && once sameDiscriminator (openOf t)
     && leb (openBy 0 t) ownMost && leb (openBy 1 t) ownMost
+    && once sameGroup (openOf t)
 
 -- the open record with a label
 unfoldable pub find : ℕ → List Session → Option Session
@@ -150,7 +161,7 @@ receiving m reading r = receivedBy r reading (receivedAs (r .settings) (messageO
 
 unfoldable pub actDone : Table → ℕ → Act → Table
 actDone t l (Close u) = closed t l u
-actDone t l (Lock u) = altered t l lockedBy u
+actDone t l (Lock u) = altered t l (λ r. lockedAt r u) u
 actDone t l (Unlock u) = altered t l (λ r. unlockedAt r u) u
 actDone t l (Receive m u) = altered t l (receiving m u) u
 actDone t l ReportOn = t

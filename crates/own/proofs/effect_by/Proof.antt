@@ -10,7 +10,7 @@ returns : tie.Need-returns
 unfolding effectBy
 returns c =
     let a = c .before .before .before .before .args in
-    rw (eq-eqb (a .r .kind) 3 (c .before .if1 .taken)) (c .locked-by .ensures)
+    rw (eq-eqb (a .r .kind) 3 (c .before .if1 .taken)) (c .locked-at .ensures)
 
 returns-2 : tie.Need-returns-2
 unfolding effectBy

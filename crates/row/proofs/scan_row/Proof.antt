@@ -1,4 +1,4 @@
--- `row::scan_row` meets its contract: a walk of its MIR, by hand. An array of 64 noughts is made in a local and lent to `pass_over` for one call, as a `&mut [u64]`, beside the row; it comes back with the pairs that were noted, and is lent to `judged` for another, as a `&[u64]`.
+-- `row::scan_row` meets its contract: a walk of its MIR, by hand. An array of 128 noughts is made in a local and lent to `pass_over` for one call, as a `&mut [u64]`, beside the row; it comes back with the pairs that were noted, and is lent to `judged` for another, as a `&[u64]`.
 -- All that the proof knows of `start`, `pass_over` and `judged` is that each meets its contract.
 -- Assumes nothing.
 use mathlib.Core.Path.{_≡_, refl, sym, ap, _∙_, subst}
@@ -86,14 +86,14 @@ module _ {M : Type 1} (𝓤 : URA M) (H : Heap 𝓤) (A : Atoms 𝓤) (mem : Mem
   abbrev JudgedC : Contract 𝓤
   JudgedC = tripleOf 𝓤 H A ju.signature (ju.spec 𝓤 H A mem run)
 
--- ---- with no model: the 64 noughts, and what the three calls come to
+-- ---- with no model: the 128 noughts, and what the three calls come to
 abbrev noughts : List ℕ
-noughts = replicate 64 0
+noughts = replicate 128 0
 
-sixty-four : length noughts ≡ 64
-sixty-four = length-replicate {A = ℕ} 64 0
+so-many : length noughts ≡ 128
+so-many = length-replicate {A = ℕ} 128 0
 
-room-of : (ps : List ℕ) → length ps ≡ 64 → Room u64 (length ps)
+room-of : (ps : List ℕ) → length ps ≡ 128 → Room u64 (length ps)
 room-of ps e = (omega (arith, e), omega (arith, e))
 
 abbrev at-pass : Progress → List ℕ → Pass
@@ -117,36 +117,36 @@ module _ {M : Type 1} (𝓤 : URA M) (H : Heap 𝓤) (A : Atoms 𝓤) (W : Given
   abbrev Post : Val → SProp 𝓤
   Post = walkOf 𝓤 H A f.ended stayed (f.clauses 𝓤 H A mem run) .post (((κ, tt), (q, tt), tt, a, at), tt)
 
-  -- the machine value that `[0; 64]` has, and that it is of its type
-  noughts-is : Is (Array u64 64) noughts (words-val w64 noughts ∷ [])
-  noughts-is = repeat-is w64 64 0 (lit< tt)
+  -- the machine value that `[0; 128]` has, and that it is of its type
+  noughts-is : Is (Array u64 128) noughts (words-val w64 noughts ∷ [])
+  noughts-is = repeat-is w64 128 0 (lit< tt)
 
-  made-typed : Holds (hasTy (tyArray (tyInt w64) 64) (arrayVal (replicate 64 (vint w64 0)))) × WT (arrayVal (replicate 64 (vint w64 0)))
-  made-typed = subst (λ (us : List Val). Holds (hasTy (tyArray (tyInt w64) 64) (arrayVal us)) × WT (arrayVal us)) (sym (repeat-val w64 64 0)) (words-typed w64 𝓤 H A W 64 noughts noughts-is)
+  made-typed : Holds (hasTy (tyArray (tyInt w64) 128) (arrayVal (replicate 128 (vint w64 0)))) × WT (arrayVal (replicate 128 (vint w64 0)))
+  made-typed = subst (λ (us : List Val). Holds (hasTy (tyArray (tyInt w64) 128) (arrayVal us)) × WT (arrayVal us)) (sym (repeat-val w64 128 0)) (words-typed w64 𝓤 H A W 128 noughts noughts-is)
 
   -- what each callee is passed
   abbrev to-st : StartC 𝓤 H A mem run .Ghost
   to-st = ((tt, tt, tt, (length ys, (h, (t, tt))), (vint w64 (length ys) ∷ [], (headP .v h ∷ [], (targetP .v t ∷ [], tt)))), tt)
 
   abbrev to-po : ℕ → ℕ → GName → Progress → PassC 𝓤 H A mem run .Ghost
-  to-po ν l δ c = (((κ, (ν ∷ [], tt)), (q, (fullShare, tt)), tt, (slice RowRecord γ b o ys, (slice u64 δ l 0 noughts, (c, tt))), (s ∷ [], (sliceVal (l, 0) 64 ∷ [], (progressP .v c ∷ [], tt)))), tt)
+  to-po ν l δ c = (((κ, (ν ∷ [], tt)), (q, (fullShare, tt)), tt, (slice RowRecord γ b o ys, (slice u64 δ l 0 noughts, (c, tt))), (s ∷ [], (sliceVal (l, 0) 128 ∷ [], (progressP .v c ∷ [], tt)))), tt)
 
   abbrev to-ju : ℕ → ℕ → GName → List ℕ → Progress → JudgedC 𝓤 H A mem run .Ghost
-  to-ju ν l δ ps c = (((ν ∷ [], tt), (fullShare, tt), tt, (slice u64 δ l 0 ps, (c, tt)), (sliceVal (l, 0) 64 ∷ [], (progressP .v c ∷ [], tt))), tt)
+  to-ju ν l δ ps c = (((ν ∷ [], tt), (fullShare, tt), tt, (slice u64 δ l 0 ps, (c, tt)), (sliceVal (l, 0) 128 ∷ [], (progressP .v c ∷ [], tt))), tt)
 
   module _ (room : Room RowRecord (length ys)) (h-is : Is (headP .T) h (headP .v h ∷ [])) (t-is : Is (targetP .T) t (targetP .v t ∷ [])) where
     -- what each callee asks
     goes-st : ent 𝓤 (emp 𝓤) (StartC 𝓤 H A mem run .pre to-st)
     goes-st = qed W [] ∵ nothing ! $ owned ! (targetP .T) (Is (targetP .T)) (targetP .makes 𝓤 H A W) t _ t-is $ fjoin ! $ owned ! (headP .T) (Is (headP .T)) (headP .makes 𝓤 H A W) h _ h-is $ fjoin ! $ owned ! usize (Is usize) (uint-makes 𝓤 H A W w64) (length ys) _ (refl, room .0) $ fjoin ! $ nothing ! $ join ! $ frame ! $ done !
 
-    goes-po : (ν l : ℕ) (δ : GName) (c : Progress) → Is (progressP .T) c (progressP .v c ∷ []) → ent 𝓤 (⋆ 𝓤 H A ((‵ (flft κ q) ⊛ ‵ (flft (ν ∷ []) fullShare) ⊛ ‵ ftrue) ∷ ‵ (Shared RowRecord κ γ b o (length ys) ys) ∷ ‵ (Mutable u64 (ν ∷ []) δ l 0 64 noughts) ∷ [])) (PassC 𝓤 H A mem run .pre (to-po ν l δ c))
+    goes-po : (ν l : ℕ) (δ : GName) (c : Progress) → Is (progressP .T) c (progressP .v c ∷ []) → ent 𝓤 (⋆ 𝓤 H A ((‵ (flft κ q) ⊛ ‵ (flft (ν ∷ []) fullShare) ⊛ ‵ ftrue) ∷ ‵ (Shared RowRecord κ γ b o (length ys) ys) ∷ ‵ (Mutable u64 (ν ∷ []) δ l 0 128 noughts) ∷ [])) (PassC 𝓤 H A mem run .pre (to-po ν l δ c))
     goes-po ν l δ c is =
-        qed W ((‵ (flft κ q) ⊛ ‵ (flft (ν ∷ []) fullShare) ⊛ ‵ ftrue) ∷ ‵ (Shared RowRecord κ γ b o (length ys) ys) ∷ ‵ (Mutable u64 (ν ∷ []) δ l 0 64 noughts) ∷ []) ∵ nothing ! $ owned ! (progressP .T) (Is (progressP .T)) (progressP .makes 𝓤 H A W) c _ is $ fjoin ! $
+        qed W ((‵ (flft κ q) ⊛ ‵ (flft (ν ∷ []) fullShare) ⊛ ‵ ftrue) ∷ ‵ (Shared RowRecord κ γ b o (length ys) ys) ∷ ‵ (Mutable u64 (ν ∷ []) δ l 0 128 noughts) ∷ []) ∵ nothing ! $ owned ! (progressP .T) (Is (progressP .T)) (progressP .makes 𝓤 H A W) c _ is $ fjoin ! $
         move ! (3 ∷ 0 ∷ []) $ fjoin ! $ move ! (2 ∷ 0 ∷ []) $ fjoin ! $ move ! (1 ∷ 0 ∷ []) $ join ! $ frame ! $ done !
 
-    goes-ju : (ν l : ℕ) (δ : GName) (ps : List ℕ) (c : Progress) → Is (progressP .T) c (progressP .v c ∷ []) → ent 𝓤 (⋆ 𝓤 H A (‵ (flft (ν ∷ []) fullShare) ∷ ‵ (Shared u64 (ν ∷ []) δ l 0 64 ps) ∷ [])) (JudgedC 𝓤 H A mem run .pre (to-ju ν l δ ps c))
+    goes-ju : (ν l : ℕ) (δ : GName) (ps : List ℕ) (c : Progress) → Is (progressP .T) c (progressP .v c ∷ []) → ent 𝓤 (⋆ 𝓤 H A (‵ (flft (ν ∷ []) fullShare) ∷ ‵ (Shared u64 (ν ∷ []) δ l 0 128 ps) ∷ [])) (JudgedC 𝓤 H A mem run .pre (to-ju ν l δ ps c))
     goes-ju ν l δ ps c is =
-        qed W (‵ (flft (ν ∷ []) fullShare) ∷ ‵ (Shared u64 (ν ∷ []) δ l 0 64 ps) ∷ []) ∵ nothing ! $ owned ! (progressP .T) (Is (progressP .T)) (progressP .makes 𝓤 H A W) c _ is $ fjoin ! $ move ! (2 ∷ 0 ∷ []) $ fjoin ! $ nothing ! $ move ! (2 ∷ 0 ∷ []) $ join ! $ join ! $ frame ! $ done !
+        qed W (‵ (flft (ν ∷ []) fullShare) ∷ ‵ (Shared u64 (ν ∷ []) δ l 0 128 ps) ∷ []) ∵ nothing ! $ owned ! (progressP .T) (Is (progressP .T)) (progressP .makes 𝓤 H A W) c _ is $ fjoin ! $ move ! (2 ∷ 0 ∷ []) $ fjoin ! $ nothing ! $ move ! (2 ∷ 0 ∷ []) $ join ! $ join ! $ frame ! $ done !
 
     exits : (w : Val) (n : Summary) → Is (summaryP .T) n (w ∷ []) → n ≡ summaryOf ys h t → ent 𝓤 (⋆ 𝓤 H A (‵ (flft κ q) ∷ ‵ (Shared RowRecord κ γ b o (length ys) ys) ∷ [])) (Post w)
     exits w n is e =
@@ -164,8 +164,8 @@ module _ {M : Type 1} (𝓤 : URA M) (H : Heap 𝓤) (A : Atoms 𝓤) (W : Given
         -- of what is owned at entry: the row twice, and its token
         move ! (25 ∷ []) $ fsplit ! $ move ! (1 ∷ []) $ drop ! $ use1 W (‵ (Shared RowRecord κ γ b o (length ys) ys) ⊛ ‵ (Shared RowRecord κ γ b o (length ys) ys)) (shr-slice-copy 𝓤 H A W (named 0) κ RowRecord .twice (slice RowRecord γ b o ys) (s ∷ [])) $ split ! $ move ! (26 ∷ []) $ split ! $
         -- [the token; true; the row; the row; _11; …; _1; …; room for _0; …]
-        assigns ! (rep ! 64 (lit ! tt)) (from ! (stop !)) (init ! 18 refl made-typed) $
-        rewrite ! 18 (λ (us : List Val). ‵ (fat fullShare (tyArray (tyInt w64) 64) l₄ 0 (arrayVal us))) (repeat-val w64 64 0) refl $
+        assigns ! (rep ! 128 (lit ! tt)) (from ! (stop !)) (init ! 18 refl made-typed) $
+        rewrite ! 18 (λ (us : List Val). ‵ (fat fullShare (tyArray (tyInt w64) 128) l₄ 0 (arrayVal us))) (repeat-val w64 128 0) refl $
         assigns ! (addr ! (from ! (stop !))) (from ! (stop !)) (init ! 14 refl (tt, tt)) $
         assigns ! (agg ! (and-then ! (load ! (from ! (stop !)) (look ! 14 refl)) (and-then ! (lit ! tt) (no-more !)))) (from ! (stop !)) (init ! 12 refl (tt, (tt, (record { fits = lit< tt }, tt)))) $
         assigns ! (of-opd ! (load ! (from ! (fld ! refl (stop !))) (look-in ! 24 (sub ! 1 refl (whole !))))) (from ! (stop !)) (init ! 8 refl (tt, record { fits = room .0 })) $
@@ -173,26 +173,26 @@ module _ {M : Type 1} (𝓤 : URA M) (H : Heap 𝓤) (A : Atoms 𝓤) (W : Given
         callee-answers ! fm st.ended (st.clauses 𝓤 H A mem run) known-st to-st (and-then ! (load ! (from ! (stop !)) (look ! 9 refl)) (and-then ! (load ! (from ! (stop !)) (look ! 23 refl)) (and-then ! (load ! (from ! (stop !)) (look ! 21 refl)) (no-more !)))) (λ c _. c ≡ startOf (length ys) h t) (λ _ _. id⊢ 𝓤 _) (λ w₀ c₀ _ e₀ was₀. drop ! $ drop ! $
         land ! (from ! (stop !)) (init ! 10 refl (progressP .typed 𝓤 H A W c₀ _ was₀)) $ rewrite ! 10 (λ (u : Val). ‵ (fat fullShare Progress″.mir l₈ 0 u)) (ap only (Progress″.lowers .val-is c₀ _ was₀)) refl $
         -- the array is lent for a lifetime ν to `pass_over`
-        lft-new ! tt (λ ν. move ! (19 ∷ []) $ lent-out w64 ! tt (ν ∷ []) 64 l₄ noughts noughts-is (room-of noughts sixty-four) (λ δ.
-        rewrite ! 0 (λ (m : ℕ). ‵ (Mutable u64 (ν ∷ []) δ l₄ 0 m noughts)) sixty-four refl $ rewrite ! 1 (λ (m : ℕ). ‵ (flent (ν ∷ []) (Held u64 m l₄ 0 δ))) sixty-four refl $
+        lft-new ! tt (λ ν. move ! (19 ∷ []) $ lent-out w64 ! tt (ν ∷ []) 128 l₄ noughts noughts-is (room-of noughts so-many) (λ δ.
+        rewrite ! 0 (λ (m : ℕ). ‵ (Mutable u64 (ν ∷ []) δ l₄ 0 m noughts)) so-many refl $ rewrite ! 1 (λ (m : ℕ). ‵ (flent (ν ∷ []) (Held u64 m l₄ 0 δ))) so-many refl $
         -- [the pairs; the lender's part; ν's token; the token; true; the row; the row; _11; …; that _4 dies; …]
         move ! (2 ∷ 4 ∷ []) $ join ! $ move ! (3 ∷ 0 ∷ []) $ join ! $ move ! (0 ∷ 3 ∷ 1 ∷ []) $ use3 W (raw (PassC 𝓤 H A mem run .pre (to-po ν l₄ δ c₀))) (goes-po ν l₄ δ c₀ (at-v progressP c₀ _ was₀)) $
         -- [what `pass_over` asks; the lender's part; the row; _11; …; that _4 dies; …]
         callee-answers ! fm po.ended (po.clauses 𝓤 H A mem run) known-po (to-po ν l₄ δ c₀) (and-then ! (load ! (from ! (stop !)) (look ! 22 refl)) (and-then ! (load ! (from ! (stop !)) (look ! 11 refl)) (and-then ! (load ! (from ! (stop !)) (look ! 9 refl)) (no-more !))))
         (λ c zs. at-pass c (zs .1 .0) ≡ passOver 0 (at-pass c₀ noughts) ys) (λ _ _. id⊢ 𝓤 _) (λ w₁ c zs e₁ was₁. use1 W (‵ (flft κ q) ⊛ ‵ (flft (ν ∷ []) fullShare) ⊛ ‵ ftrue) (id⊢ 𝓤 _) $ split ! $ move ! (1 ∷ []) $ split ! $ lft-end ! tt $
         -- [ν is over; true; the token; the last lists; the lender's part; the row; _11; …]
-        move ! (3 ∷ []) $ fsplit ! $ drop ! $ fsplit ! $ fsplit ! $ move ! (1 ∷ []) $ feqL ! (λ len. move ! (2 ∷ 5 ∷ 0 ∷ []) $ got-back w64 ! tt (ν ∷ []) 64 l₄ δ (zs .1 .0) (λ ps-is. move ! (1 ∷ []) $ drop ! $
+        move ! (3 ∷ []) $ fsplit ! $ drop ! $ fsplit ! $ fsplit ! $ move ! (1 ∷ []) $ feqL ! (λ len. move ! (2 ∷ 5 ∷ 0 ∷ []) $ got-back w64 ! tt (ν ∷ []) 128 l₄ δ (zs .1 .0) (λ ps-is. move ! (1 ∷ []) $ drop ! $
         -- [_4; true; the token; the row; _11; …; that _4 dies; …]
         land ! (from ! (stop !)) (init ! 16 refl (progressP .typed 𝓤 H A W c _ was₁)) $ rewrite ! 16 (λ (u : Val). ‵ (fat fullShare Progress″.mir l₅ 0 u)) (ap only (Progress″.lowers .val-is c _ was₁)) refl $
         assigns ! (addr ! (from ! (stop !))) (from ! (stop !)) (init ! 6 refl (tt, tt)) $
         assigns ! (agg ! (and-then ! (load ! (from ! (stop !)) (look ! 6 refl)) (and-then ! (lit ! tt) (no-more !)))) (from ! (stop !)) (init ! 4 refl (tt, (tt, (record { fits = lit< tt }, tt)))) $
         -- and for a lifetime μ to `judged`
-        lft-new ! tt (λ μ. move ! (1 ∷ []) $ lent-shared-out w64 ! tt (μ ∷ []) 64 l₄ (zs .1 .0) ps-is (room-of (zs .1 .0) (ps-is .1 .0 .1)) (λ ε.
+        lft-new ! tt (λ μ. move ! (1 ∷ []) $ lent-shared-out w64 ! tt (μ ∷ []) 128 l₄ (zs .1 .0) ps-is (room-of (zs .1 .0) (ps-is .1 .0 .1)) (λ ε.
         rewrite ! 0 (λ (m : ℕ). ‵ (Shared u64 (μ ∷ []) ε l₄ 0 m (zs .1 .0))) (ps-is .1 .0 .1) refl $
         move ! (2 ∷ 0 ∷ []) $ use2 W (raw (JudgedC 𝓤 H A mem run .pre (to-ju μ l₄ ε (zs .1 .0) c))) (goes-ju μ l₄ ε (zs .1 .0) c (at-v progressP c _ was₁)) $
         -- [what `judged` asks; the lender's part; true; the token; the row; _11; …; that _4 dies; …]
         callee-answers ! fm ju.ended (ju.clauses 𝓤 H A mem run) known-ju (to-ju μ l₄ ε (zs .1 .0) c) (and-then ! (load ! (from ! (stop !)) (look ! 5 refl)) (and-then ! (load ! (from ! (stop !)) (look ! 17 refl)) (no-more !)))
-        (λ n _. n ≡ judgedOf (zs .1 .0) c) (λ _ _. id⊢ 𝓤 _) (λ w n _ e₂ was. token-back ! (μ ∷ []) fullShare $ lft-end ! tt $ move ! (1 ∷ []) $ drop ! $ got-shared-back w64 ! tt (μ ∷ []) 64 l₄ (zs .1 .0) (ps-is .1 .0 .1) $
+        (λ n _. n ≡ judgedOf (zs .1 .0) c) (λ _ _. id⊢ 𝓤 _) (λ w n _ e₂ was. token-back ! (μ ∷ []) fullShare $ lft-end ! tt $ move ! (1 ∷ []) $ drop ! $ got-shared-back w64 ! tt (μ ∷ []) 128 l₄ (zs .1 .0) (ps-is .1 .0 .1) $
         move ! (1 ∷ 2 ∷ 3 ∷ 4 ∷ 5 ∷ 6 ∷ 7 ∷ 8 ∷ 9 ∷ 10 ∷ 11 ∷ 12 ∷ 13 ∷ 14 ∷ 15 ∷ 16 ∷ 17 ∷ 0 ∷ []) $
         -- [true; the token; the row; _11; …; _1; …; room for _0; …]
         land ! (from ! (stop !)) (init ! 25 refl (summaryP .typed 𝓤 H A W n _ was)) $ returns ! {r = w} (look ! 25 refl) $

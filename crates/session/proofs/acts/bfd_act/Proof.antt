@@ -19,10 +19,10 @@ returns-3 c = c .cv-act .ensures ∙ rw (← c .before .before .before .before .
 
 returns-4 : tie.Need-returns-4
 unfolding bfdActed
-returns-4 c = c .refused2 .ensures ∙ rw (← c .before .before .before .before .before .header-refusal .ensures, c .before .before .before .before .if1 .left, ← c .before .before .before .get-u16 .ensures, ne-eqb _ _ (c .before .before .if2 .left), ne-eqb _ _ (c .before .if3 .left))
+returns-4 c = c .refused2 .ensures ∙ rw (c .before .other-refusal .ensures, ← c .before .before .before .before .before .before .header-refusal .ensures, c .before .before .before .before .before .if1 .left, ← c .before .before .before .before .get-u16 .ensures, ne-eqb _ _ (c .before .before .before .if2 .left), ne-eqb _ _ (c .before .before .if3 .left))
 
 pub bfd-act-spec : {M : Type 1} → statement M
 bfd-act-spec =
     tie.close
     (tie.spec (λ c κs. search needs) (λ c κs. search needs) returns (λ c κs. search needs) (λ c κs. search needs)
-    returns-2 (λ c κs. search needs) returns-3 (λ c κs. search needs) returns-4)
+    returns-2 (λ c κs. search needs) returns-3 (λ c κs. search needs) (λ c κs. search needs) returns-4)

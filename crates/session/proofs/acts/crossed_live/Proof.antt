@@ -5,9 +5,9 @@ use Rattle.session.proofs.acts.crossed_live.Tie as tie
 
 returns : tie.Need-returns
 unfolding crossedAt
-returns c = rw (c .live-of .ensures, c .before .stored-number .ensures, c .before .before .move-by .ensures, c .before .before .before .state-at .ensures, c .before .before .before .before .mode-of .ensures)
+returns c = rw (c .crossed-by .ensures, c .before .group-at .ensures, c .before .before .live-of .ensures, c .before .before .before .stored-number .ensures, c .before .before .before .before .move-by .ensures, c .before .before .before .before .before .state-at .ensures, c .before .before .before .before .before .before .mode-of .ensures)
 
 pub crossed-live-spec : {M : Type 1} → statement M
 crossed-live-spec =
     tie.close
-    (tie.spec (λ c κs. search needs) (λ c κs. search needs) (λ c κs. search needs) (λ c κs. search needs) (λ c κs. search needs) returns)
+    (tie.spec (λ c κs. search needs) (λ c κs. search needs) (λ c κs. search needs) (λ c κs. search needs) (λ c κs. search needs) (λ c κs. search needs) (λ c κs. search needs) returns)

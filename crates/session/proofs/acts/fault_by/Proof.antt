@@ -15,10 +15,10 @@ returns c =
 returns-2 : tie.Need-returns-2
 unfolding faultTaken
 returns-2 c =
-    let e = ap (λ (v : Verdict). v .answer) (c .before .before .before .before .take-fault .ensures) in
-    rw (← e, c .before .before .if1 .left, c .before .before .before .before .take-fault .ensures, c .fault-state .ensures)
+    let e = ap (λ (v : Verdict). v .answer) (c .before .before .before .before .before .take-fault .ensures) in
+    rw (← e, c .before .before .before .if1 .left, c .before .before .before .before .before .take-fault .ensures, c .before .fault-state .ensures, c .group-at .ensures)
 
 pub fault-by-spec : {M : Type 1} → statement M
 fault-by-spec =
     tie.close
-    (tie.spec (λ c κs. search needs) (λ c κs. search needs) returns (λ c κs. search needs) returns-2)
+    (tie.spec (λ c κs. search needs) (λ c κs. search needs) returns (λ c κs. search needs) (λ c κs. search needs) returns-2)

@@ -7,4 +7,4 @@ pub opened-at-spec : {M : Type 1} → statement M
 unfolding newSession
 opened-at-spec =
     tie.close
-    (tie.spec (λ c κs. search needs) (λ c. rw (c .no-conditions .ensures)))
+    (tie.spec (λ c κs. search needs) (λ c κs. search needs) (λ c. rw (c .no-group .ensures, c .before .no-conditions .ensures)))

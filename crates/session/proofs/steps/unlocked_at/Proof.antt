@@ -8,5 +8,5 @@ unfolding unlockedAt
 unlocked-at-spec =
     tie.close
     (tie.spec (λ c κs. search needs) (λ c κs. search needs) (λ c κs. search needs) (λ c κs. search needs)
-    (λ c κs. search needs) (λ c κs. search needs)
-    (λ c. rw (c .before .unlocked-date .ensures, c .before .before .unlocked-multiplier .ensures, c .before .before .before .stored-number .ensures, c .before .before .before .before .unlocked-state .ensures, c .before .before .before .before .before .state-at .ensures, c .before .before .before .before .before .before .is-locked .ensures)))
+    (λ c κs. search needs) (λ c κs. search needs) (λ c κs. search needs)
+    (λ c. rw (c .before .group-at .ensures, c .before .before .unlocked-date .ensures, c .before .before .before .unlocked-multiplier .ensures, c .before .before .before .before .stored-number .ensures, c .before .before .before .before .before .unlocked-state .ensures, c .before .before .before .before .before .before .state-at .ensures, c .before .before .before .before .before .before .before .is-locked .ensures)))

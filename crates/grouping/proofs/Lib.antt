@@ -1,0 +1,6 @@
+pub mod Holders
+pub mod Accepted
+pub mod Order
+pub mod BareRecord
+pub mod BareRow
+pub mod Apart

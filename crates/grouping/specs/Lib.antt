@@ -1,0 +1,4 @@
+pub mod Commands
+pub mod Grouped
+pub mod Asking
+pub mod Bare
