@@ -126,7 +126,8 @@ impl Counts {
                     self.places[place] += 1;
                 }
             }
-            Answer::Accepted => {}
+            // No record asks a group.
+            Answer::Accepted | Answer::Group(_) => {}
         }
     }
 
@@ -280,7 +281,7 @@ impl Counts {
             write!(output, "{kind:>9}")?;
         }
         writeln!(output, "{:>9}", "all")?;
-        for answer in (0..15).chain([26]) {
+        for answer in (0..15).chain([24, 25, 26]) {
             let row: Vec<u64> = self.answers.iter().map(|kind| kind[answer]).collect();
             print_row(output, &answer.to_string(), &row)?;
         }

@@ -13,6 +13,7 @@ pub mod cover;
 pub mod dhc;
 pub mod distinct;
 pub mod edges;
+pub mod group;
 pub mod list;
 pub mod load;
 pub mod log;

@@ -18,7 +18,7 @@ const FAULT_HEAD: usize = 9;
 pub const CHANNEL_CC: u16 = 0x0022;
 pub const CHANNEL_CV: u16 = 0x0023;
 pub const CHANNEL_FAULT: u16 = 0x0058;
-/// Dual-homing coordination, which `read` does not know.
+/// Dual-homing coordination, which has a reader of its own (`dhc`).
 pub const CHANNEL_DHC: u16 = 0x0009;
 
 /// A BFD session state, numbered as on the wire.

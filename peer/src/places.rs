@@ -1,14 +1,17 @@
 //! The places at which a message can go wrong, by name, for counting.
 
-use crate::message::{CHANNEL_CV, CHANNEL_FAULT};
+use crate::message::{CHANNEL_CV, CHANNEL_DHC, CHANNEL_FAULT};
 use crate::octets::be16;
 use crate::refusal::{Refusal, Refused};
 
 /// Length of a fault message up to its TLVs, channel header included.
 const FAULT_HEAD: usize = 9;
 
+/// Length of a DHC message up to its TLVs, channel header included.
+const DHC_HEAD: usize = 12;
+
 /// All places, each behind the number of its refusal.
-pub const NAMES: [&str; 24] = [
+pub const NAMES: [&str; 26] = [
     "3, no octet",
     "3, under 4 octets",
     "3, CC or CV under 28",
@@ -33,6 +36,8 @@ pub const NAMES: [&str; 24] = [
     "8 at the first TLV's type",
     "8 at a later TLV's type",
     "8 at a TLV's length",
+    "3, DHC message under 12",
+    "3, DHC message of 12 or more",
 ];
 
 /// Which of the places it is; none for a refusal that has no place.
@@ -68,6 +73,8 @@ fn short(message: &[u8]) -> usize {
         1..4 => 1,
         4..FAULT_HEAD if is_of(CHANNEL_FAULT) => 5,
         _ if is_of(CHANNEL_FAULT) => 6,
+        4..DHC_HEAD if is_of(CHANNEL_DHC) => 24,
+        _ if is_of(CHANNEL_DHC) => 25,
         4..28 => 2,
         length if is_of(CHANNEL_CV) && length >= mep_id_at(message) + 4 => 4,
         _ => 3,

@@ -12,7 +12,8 @@ pub enum Refusal {
     Short = 3,
     /// The first nibble is not 1, or the G-ACh version is not 0.
     ChannelHeader = 4,
-    /// The channel type is none of CC, CV and fault.
+    /// The channel type is none of CC, CV, fault and DHC, or of another kind than
+    /// the reader's.
     ChannelType = 5,
     /// A BFD reception rule is broken.
     Bfd = 6,
@@ -23,16 +24,21 @@ pub enum Refusal {
     Fault = 8,
     /// A new condition where four already stand.
     ConditionsFull = 9,
-    /// A setting is out of range, or the label is another party's.
+    /// A setting is out of range, the label is another party's, or the two labels
+    /// of a group are equal.
     Setting = 10,
-    /// The label is already open, or the local discriminator in one's own party.
-    AlreadyOpen = 11,
+    /// The label is already open, or the local discriminator in one's own party;
+    /// the service PW has a group, or one's own party has one of this ID.
+    InUse = 11,
     /// One's own 32 sessions are open.
     TableFull = 12,
     /// The room to write into is too short.
     Buffer = 13,
     /// A BFD message came for a locked session.
     Locked = 14,
+    /// There is no such group, or a DHC message is for another DNI-PW or not from
+    /// the group's peer.
+    NoGroup = 24,
     /// A TLV of a DHC message is wrong or there twice, or neither is there.
     Coordination = 25,
     /// The table itself breaks its rules.

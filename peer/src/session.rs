@@ -1,5 +1,6 @@
 //! One session: what it keeps, how it moves and what it says of itself.
 
+use crate::group::Group;
 use crate::machine::{self, Input, Mode};
 use crate::mep_id::LONGEST_VALUE;
 use crate::message::{Bfd, Fault, FaultKind, Message, Origin, State, CHANNEL_CC, CHANNEL_CV};
@@ -105,10 +106,12 @@ pub struct Session {
     pub reply_owed: bool,
     pub last_misconnected: Option<u64>,
     pub conditions: [Option<Condition>; CONDITIONS],
+    /// The group of which this is the service PW, if it is one's.
+    pub group: Group,
 }
 
 impl Session {
-    /// A session as it is opened: DOWN, and timed from its opening.
+    /// A session as it is opened: DOWN, timed from its opening, and of no group.
     pub fn open(settings: Settings, now: u64) -> Session {
         Session {
             settings,
@@ -121,6 +124,7 @@ impl Session {
             reply_owed: false,
             last_misconnected: None,
             conditions: [None; CONDITIONS],
+            group: Group::default(),
         }
     }
 
@@ -160,11 +164,19 @@ impl Session {
             .filter(move |condition| condition.stands(now))
     }
 
-    /// TIMER is given where there is a loss of continuity.
+    /// TIMER is given where there is a loss of continuity, and a working PE gives
+    /// up its PW.
     pub fn timer(&mut self, now: u64) {
         if self.has_loss(now) {
             self.give(Input::Timer);
+            self.group.give_up();
         }
+    }
+
+    /// The group is set or returned: its PW goes by the defects that stand.
+    pub fn start_group(&mut self, now: u64) {
+        let defect = self.has_loss(now) || self.has_misconnectivity(now);
+        self.group.start(defect);
     }
 
     /// Moves the session. One that stays DOWN keeps what it remembers.
@@ -217,10 +229,12 @@ impl Session {
         }
     }
 
-    /// A message of another circuit is dated, in whatever mode.
+    /// A message of another circuit is dated, in whatever mode, and a working PE
+    /// gives up its PW.
     fn misconnect(&mut self, now: u64) {
         self.last_misconnected = Some(now);
         self.give(Input::Misconnected);
+        self.group.give_up();
     }
 
     fn process_cc(&mut self, bfd: &Bfd, now: u64) {

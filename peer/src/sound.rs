@@ -6,31 +6,37 @@ use crate::party::{Party, SESSIONS_OF_ONE};
 use crate::session::{Condition, Session};
 
 /// Room for the tests of distinctness, kept between calls: labels of all, and
-/// of each party its discriminators.
+/// what else each party has of its own.
 #[derive(Default)]
 pub struct Scratch {
     labels: Distinct,
-    ours: Discriminators,
-    theirs: Discriminators,
+    ours: Own,
+    theirs: Own,
 }
 
-/// The discriminators of one party.
+/// The discriminators of one party, and the IDs of its groups.
 #[derive(Default)]
-struct Discriminators {
-    seen: Distinct,
+struct Own {
+    discriminators: Distinct,
+    groups: Distinct,
     count: usize,
 }
 
-impl Discriminators {
+impl Own {
     fn start(&mut self) {
-        self.seen.start();
+        self.discriminators.start();
+        self.groups.start();
         self.count = 0;
     }
 
-    /// Adds one and says whether it is new and within the party's number.
-    fn add(&mut self, discriminator: u32) -> bool {
+    /// Adds a session and says whether it is within the party's number, and its
+    /// discriminator and the ID of its group, if it has one, are new.
+    fn add(&mut self, session: &Session) -> bool {
+        let group = &session.group;
         self.count += 1;
-        self.count <= SESSIONS_OF_ONE && self.seen.add(discriminator)
+        self.count <= SESSIONS_OF_ONE
+            && self.discriminators.add(session.settings.discriminator)
+            && (!group.is_there() || self.groups.add(group.id))
     }
 }
 
@@ -47,13 +53,13 @@ impl Scratch {
             true => &mut self.ours,
             false => &mut self.theirs,
         };
-        self.labels.add(settings.label) && own.add(settings.discriminator)
+        self.labels.add(settings.label) && own.add(session)
     }
 }
 
 /// Whether all open sessions have their fields in range, no date above the
 /// clock and no label in common, and whether each party has at most 32 of them,
-/// no two with one discriminator.
+/// no two with one discriminator, and no two groups of one ID.
 pub fn is_sound(places: &[Option<Session>], clock: u64, scratch: &mut Scratch) -> bool {
     scratch.start();
     let mut open = places.iter().flatten();
@@ -69,6 +75,7 @@ pub fn session_is_sound(session: &Session, clock: u64) -> bool {
         && session.remote_diagnostic.is_none_or(|d| d < 32)
         && remote_end_is_sound(session)
         && conditions_are_sound(session, clock)
+        && session.group.is_sound(session.settings.label)
 }
 
 /// A remote discriminator is never 0, and INIT and UP need one.
@@ -97,6 +104,7 @@ fn conditions_are_sound(session: &Session, clock: u64) -> bool {
 #[cfg(test)]
 mod tests {
     use super::*;
+    use crate::group::{Activity, Group, Role};
     use crate::machine::Mode;
     use crate::mep_id::MepId;
     use crate::message::{FaultKind, Origin};
@@ -268,5 +276,60 @@ mod tests {
                 });
             }));
         }
+    }
+
+    /// A group over the DNI-PW of the session with the number before it.
+    fn grouped(places: &mut [Option<Session>], at: usize, id: u32) {
+        let dni = settings(places, at - 1).label;
+        places[at].as_mut().unwrap().group = Group {
+            mark: 1,
+            id,
+            dni,
+            ..Group::default()
+        };
+    }
+
+    #[test]
+    fn groups_are_told_apart_party_by_party() {
+        let verdict = |first, second| {
+            verdict_on(|t| {
+                grouped(t, first, 7);
+                grouped(t, second, 7);
+            })
+        };
+        assert!(!verdict(1, 31));
+        assert!(!verdict(33, 63));
+        assert!(verdict(1, 33));
+        assert!(verdict_on(
+            |t| (1..32).for_each(|at| grouped(t, at, at as u32))
+        ));
+        // Where there is no group its ID is no ID.
+        assert!(verdict_on(|t| {
+            grouped(t, 1, 0);
+            grouped(t, 2, 1);
+            t[2].as_mut().unwrap().group.mark = 0;
+            grouped(t, 3, 1);
+        }));
+    }
+
+    #[test]
+    fn a_group_out_of_order_is_found() {
+        let verdict = |change: fn(&mut Group)| {
+            verdict_on(|t| {
+                grouped(t, 63, 7);
+                change(&mut t[63].as_mut().unwrap().group);
+            })
+        };
+        assert!(verdict(|_| {}));
+        assert!(!verdict(|g| g.mark = 2));
+        assert!(!verdict(|g| g.role = Role(2)));
+        assert!(!verdict(|g| g.pw = Activity(2)));
+        assert!(!verdict(|g| g.ac = Activity(2)));
+        // 500,131 is the label of the record itself.
+        assert!(!verdict(|g| g.dni = 500_131));
+        assert!(!verdict(|g| g.dni = 499_999));
+        assert!(!verdict(|g| g.dni = 1_048_576));
+        assert!(verdict(|g| g.dni = 1_048_575));
+        assert!(verdict(|g| g.dni = 500_000));
     }
 }

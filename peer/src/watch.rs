@@ -3,7 +3,7 @@
 use crate::capture::{Next, Reader};
 use crate::refusal::Refused;
 use crate::session::Report;
-use crate::table::{Answer, Table};
+use crate::table::{Answer, Table, Told};
 use std::io::{self, Read, Write};
 
 /// Reads a capture and prints the answers, to the end or to the first record
@@ -39,6 +39,7 @@ pub fn print_answer(output: &mut impl Write, answer: &Answer) -> io::Result<()> 
     match answer {
         Answer::Report(report) => print_report(output, report),
         Answer::Written(written) => print_hex(output, written.octets()),
+        Answer::Group(told) => print_told(output, told),
         Answer::Refused(refused) => print_place(output, refused),
         Answer::Accepted => Ok(()),
     }
@@ -56,6 +57,12 @@ fn print_report(output: &mut impl Write, report: &Report) -> io::Result<()> {
         u8::from(report.blocked),
         report.conditions
     )
+}
+
+/// PW, AC and forwarding of a group, in their numbers.
+fn print_told(output: &mut impl Write, told: &Told) -> io::Result<()> {
+    let forwarding = told.forwarding as u8;
+    write!(output, " {} {} {forwarding}", told.pw.0, told.ac.0)
 }
 
 /// Where a message that could not be read went wrong; nothing for others.

@@ -105,7 +105,8 @@ fn written_fields_read_back() {
             continue;
         };
         assert_eq!(dhc::read(&octets), Ok(fields));
-        assert_eq!(dhc::read(&octets[..octets.len() - 1]), Err(Refusal::Short));
+        let last = octets.len() - 1;
+        assert_eq!(dhc::read(&octets[..last]), Err(Refusal::Short.at(last)));
         octets.extend([0, 1, 0, 20]);
         assert_eq!(dhc::read(&octets), Ok(fields));
     }

@@ -17,6 +17,10 @@ pub fn run(command: &str, words: &[&str]) -> Done {
             std::fs::write(second, other)?;
             Ok(ExitCode::SUCCESS)
         }
+        ("make-groups", [seed, calls]) => {
+            let list = make::groups(number(seed)?, number(calls)?);
+            print_octets(list.map_err(io::Error::other)?.as_bytes())
+        }
         ("log", [path]) => logged(path),
         ("assemble", [path]) => assembled(path),
         ("morning", []) => print_octets(morning::text().as_bytes()),

@@ -18,12 +18,14 @@ const USAGE: &str = "usage: peer watch [--own-table] < capture
        peer make [--ties|--spacing] SEED > capture
        peer make --log SEED > log
        peer make --compare SEED FIRST SECOND
+       peer make-groups SEED COUNT > list
        peer assemble TEXT > capture
        peer lists FOLDER
        peer asks FOLDER
        peer spell LIST > list
        peer answer < list
        peer cells LIST...
+       peer switching LIST...
        peer dhc < list
        peer check N [--program PATH]
        peer check-why N [--program PATH]
@@ -45,8 +47,12 @@ pub fn run(words: &[&str]) -> Done {
     };
     match *command {
         "watch" | "why" | "spacing" | "compare" | "index" | "ask" => asking::run(command, rest),
-        "make" | "log" | "assemble" | "morning" | "load" => making::run(command, rest),
-        "lists" | "asks" | "spell" | "answer" | "cells" | "dhc" => playing::run(command, rest),
+        "make" | "make-groups" | "log" | "assemble" | "morning" | "load" => {
+            making::run(command, rest)
+        }
+        "lists" | "asks" | "spell" | "answer" | "cells" | "switching" | "dhc" => {
+            playing::run(command, rest)
+        }
         "check" | "check-why" | "check-spacing" | "check-compare" | "check-ask" | "cover" => {
             checking::run(command, rest)
         }

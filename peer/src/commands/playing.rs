@@ -13,6 +13,7 @@ pub fn run(command: &str, words: &[&str]) -> Done {
         ("spell", [path]) => print_octets(list::spell(&list_at(Path::new(path))?).as_bytes()),
         ("answer", []) => print(|output| list::answer(input(), output)),
         ("cells", [_, ..]) => cells(words),
+        ("switching", [_, ..]) => switching(words),
         ("dhc", []) => print(|output| dhc::answer(input(), output)),
         _ => usage(),
     }
@@ -61,6 +62,15 @@ fn cells(paths: &[&str]) -> Done {
         cells.add(&lines).map_err(io::Error::other)?;
     }
     print(|output| cells.print(output))
+}
+
+fn switching(paths: &[&str]) -> Done {
+    let mut switching = list::Switching::default();
+    for path in paths {
+        let lines = list_at(Path::new(path))?;
+        switching.add(&lines).map_err(io::Error::other)?;
+    }
+    print(|output| switching.print(output))
 }
 
 fn list_at(path: &Path) -> io::Result<Vec<list::Line>> {

@@ -40,7 +40,8 @@ fn answer_to(words: &[&str]) -> Result<Result<String, Refusal>, Mistake> {
     match *words {
         ["read", octets] => {
             let message = octets_of(if octets == "-" { "" } else { octets })?;
-            Ok(super::read(&message).map(|dhc| fields(&dhc)))
+            let read = super::read(&message).map_err(|refused| refused.refusal);
+            Ok(read.map(|dhc| fields(&dhc)))
         }
         ["write", room, group, status, switching] => {
             let status = status_by(&numbers(status)?)?;

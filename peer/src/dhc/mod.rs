@@ -1,5 +1,5 @@
-//! Dual-homing coordination (DHC) messages, read and written. No session and no
-//! table takes part: a capture that has one is answered 5.
+//! Dual-homing coordination (DHC) messages, read and written. What one does to a
+//! group is the group's to say.
 
 mod lines;
 
@@ -7,7 +7,7 @@ pub use lines::answer;
 
 use crate::message::{self, CHANNEL_DHC};
 use crate::octets::{be16, be32};
-use crate::refusal::Refusal;
+use crate::refusal::{Refusal, Refused};
 
 /// Channel header, group ID, total length of the TLVs and a reserved field.
 const HEAD: usize = 12;
@@ -49,17 +49,37 @@ pub struct DualNodeSwitching {
     pub protection: bool,
 }
 
-/// Reads a DHC message. Octets behind its TLVs are link padding.
-pub fn read(octets: &[u8]) -> Result<Dhc, Refusal> {
-    let channel = message::channel(octets).map_err(|refused| refused.refusal)?;
-    if channel != CHANNEL_DHC {
-        return Err(Refusal::ChannelType);
+impl Dhc {
+    /// The switch bit names the protection PW.
+    pub fn switches(&self) -> bool {
+        self.switching.is_some_and(|switching| switching.switch)
     }
+
+    /// The status is signal fail.
+    pub fn fails(&self) -> bool {
+        self.status.is_some_and(|status| status.fail)
+    }
+
+    /// The source of each TLV that is there.
+    pub fn sources(&self) -> impl Iterator<Item = u32> {
+        let status = self.status.map(|status| status.ends);
+        let switching = self.switching.map(|switching| switching.ends);
+        status.into_iter().chain(switching).map(|ends| ends.source)
+    }
+}
+
+/// Reads a DHC message. Octets behind its TLVs are link padding. Where TLVs are
+/// wrong no place is named.
+pub fn read(octets: &[u8]) -> Result<Dhc, Refused> {
+    if message::channel(octets)? != CHANNEL_DHC {
+        return Err(Refusal::ChannelType.at(2));
+    }
+    let short = || Refusal::Short.at(octets.len());
     if octets.len() < HEAD {
-        return Err(Refusal::Short);
+        return Err(short());
     }
     let total = usize::from(be16(octets, 8));
-    let tlvs = octets.get(HEAD..HEAD + total).ok_or(Refusal::Short)?;
+    let tlvs = octets.get(HEAD..HEAD + total).ok_or_else(short)?;
     let mut dhc = Dhc {
         group: be32(octets, 4),
         status: None,
@@ -67,7 +87,7 @@ pub fn read(octets: &[u8]) -> Result<Dhc, Refusal> {
     };
     read_tlvs(tlvs, &mut dhc).ok_or(Refusal::Coordination)?;
     match (dhc.status, dhc.switching) {
-        (None, None) => Err(Refusal::Coordination),
+        (None, None) => Err(Refusal::Coordination.into()),
         _ => Ok(dhc),
     }
 }

@@ -1,7 +1,7 @@
 //! How often the calls of a list play each cell of the three machines: a mode,
 //! a state and an input.
 
-use super::{Call, Line};
+use super::{done, Call, Line};
 use crate::capture::Kind;
 use crate::message::{self, FaultKind, Message, State};
 use crate::session::Session;
@@ -34,14 +34,10 @@ impl Cells {
     pub fn add(&mut self, lines: &[Line]) -> Result<(), String> {
         let mut table = Table::new();
         for line in lines {
-            match line {
-                Line::Blank => {}
-                Line::Spoil(spoil) => spoil.apply(&mut table)?,
-                Line::Call(call) => {
-                    self.add_call(&table, call);
-                    table.perform_with(&call.record(), call.beside);
-                }
+            if let Line::Call(call) = line {
+                self.add_call(&table, call);
             }
+            done(&mut table, line)?;
         }
         Ok(())
     }

@@ -4,16 +4,25 @@
 //! ```text
 //! TIME LABEL KIND .. party=NUMBER => ANSWER    # remark
 //! TIME LABEL open .. mode=NUMBER party=NUMBER => ANSWER
+//! TIME SERVICE group id=ID role=NUMBER peer=NODE dni=LABEL party=NUMBER => ANSWER
+//! TIME - ac id=ID ac=NUMBER party=NUMBER => ANSWER
+//! TIME - return id=ID party=NUMBER => ANSWER
+//! - - ask id=ID party=NUMBER => ANSWER
 //! spoil PLACE FIELD VALUE
 //! ```
 //!
 //! A list begins with an empty table. `party=` is who calls, the label's own
-//! party where none is named; a tick names none. `mode=` is the mode of an open,
-//! 0 where none is named. `spoil` changes a stored session past every call.
+//! party where none is named, and 0 where there is no label; a tick names none.
+//! `mode=` is the mode of an open, 0 where none is named. `group` sets a group on
+//! the label SERVICE, role 0 working and 1 protection; `ac` sets its AC, 0 standby
+//! and 1 active; `ask` is answered `0 PW AC FORWARDING`. `spoil` changes a stored
+//! session past every call.
 
 mod cells;
+mod group;
 mod play;
 mod spoil;
+mod switching;
 
 use crate::assemble::{self, call_of, without_remark, Mistake, Words};
 use crate::capture::{Kind, Record};
@@ -21,10 +30,12 @@ use crate::machine::Mode;
 use crate::party::Party;
 use crate::table::Beside;
 pub use cells::Cells;
-pub use play::{answer, play, Played};
+pub use group::OnGroup;
+pub use play::{answer, done, play, text, Played};
 pub use spoil::Spoil;
 use std::io;
 use std::path::{Path, PathBuf};
+pub use switching::Switching;
 
 /// A line of a list.
 #[derive(Clone, Debug, PartialEq, Eq)]
@@ -32,6 +43,7 @@ pub enum Line {
     /// A line without words.
     Blank,
     Call(Call),
+    Group(OnGroup),
     Spoil(Spoil),
 }
 
@@ -83,7 +95,7 @@ pub fn line_of(line: &str) -> Result<Line, Mistake> {
     let read = match words.first() {
         None => Line::Blank,
         Some("spoil") => Line::Spoil(spoil::read(&mut words)?),
-        Some(time) => Line::Call(call(time, &mut words, answer_of(line))?),
+        Some(time) => call(time, &mut words, answer_of(line))?,
     };
     words.end()?;
     Ok(read)
@@ -95,18 +107,23 @@ fn answer_of(line: &str) -> Option<String> {
     Some(answer.split_whitespace().collect::<Vec<_>>().join(" "))
 }
 
-fn call(time: &str, words: &mut Words, answer: Option<String>) -> Result<Call, Mistake> {
+fn call(time: &str, words: &mut Words, answer: Option<String>) -> Result<Line, Mistake> {
+    let time = assemble::read(time)?;
     let label = assemble::read(words.first().ok_or("no label")?)?;
-    let kind = assemble::kind_of(words.first().ok_or("no kind")?)?;
+    let kind = words.first().ok_or("no kind")?;
+    if let Some(call) = group::read(kind, time, label, words)? {
+        return Ok(Line::Group(OnGroup { call, answer }));
+    }
+    let kind = assemble::kind_of(kind)?;
     let beside = beside(label, kind, words)?;
-    Ok(Call {
-        time: assemble::read(time)?,
+    Ok(Line::Call(Call {
+        time,
         label,
         kind,
         body: assemble::body_of(kind, words)?,
         beside,
         answer,
-    })
+    }))
 }
 
 /// The words of a call that a capture has none for.
@@ -122,7 +139,7 @@ fn beside(label: u32, kind: Kind, words: &mut Words) -> Result<Beside, Mistake> 
 }
 
 /// The same list line for line, for a host that reads no words: every body in
-/// octets, nothing left out.
+/// octets, every number of a group named, nothing left out.
 pub fn spell(lines: &[Line]) -> String {
     lines.iter().map(|line| spelled(line) + "\n").collect()
 }
@@ -131,20 +148,28 @@ fn spelled(line: &Line) -> String {
     match line {
         Line::Blank => String::new(),
         Line::Spoil(spoil) => spoil.to_string(),
-        Line::Call(call) => {
-            let Call {
-                time, label, body, ..
-            } = call;
-            let kind = assemble::name_of(call.kind);
-            let beside = match (call.kind, call.beside.party.0) {
-                (Kind::Tick, _) => String::new(),
-                (Kind::Open, party) => format!(" mode={} party={party}", call.beside.mode.0),
-                (_, party) => format!(" party={party}"),
-            };
-            let hex: String = body.iter().map(|octet| format!("{octet:02x}")).collect();
-            let answer = call.answer.as_ref().map(|answer| format!(" => {answer}"));
-            let answer = answer.unwrap_or_default();
-            format!("{time} {label} {kind}{beside} hex {hex}{answer}")
-        }
+        Line::Group(on) => answered(group::spelled(&on.call), &on.answer),
+        Line::Call(call) => answered(spelled_call(call), &call.answer),
+    }
+}
+
+fn spelled_call(call: &Call) -> String {
+    let Call {
+        time, label, body, ..
+    } = call;
+    let kind = assemble::name_of(call.kind);
+    let beside = match (call.kind, call.beside.party.0) {
+        (Kind::Tick, _) => String::new(),
+        (Kind::Open, party) => format!(" mode={} party={party}", call.beside.mode.0),
+        (_, party) => format!(" party={party}"),
+    };
+    let hex: String = body.iter().map(|octet| format!("{octet:02x}")).collect();
+    format!("{time} {label} {kind}{beside} hex {hex}")
+}
+
+fn answered(call: String, answer: &Option<String>) -> String {
+    match answer {
+        Some(answer) => format!("{call} => {answer}"),
+        None => call,
     }
 }

@@ -20,7 +20,7 @@ pub fn play(lines: &[Line]) -> Played {
     let mut table = Table::new();
     let mut played = Played::default();
     for (number, line) in lines.iter().enumerate() {
-        played.calls += u64::from(matches!(line, Line::Call(_)));
+        played.calls += u64::from(matches!(line, Line::Call(_) | Line::Group(_)));
         if let Err(difference) = held(&mut table, line) {
             let number = number + 1;
             played.wrong.push(format!("line {number}: {difference}"));
@@ -31,9 +31,11 @@ pub fn play(lines: &[Line]) -> Played {
 
 fn held(table: &mut Table, line: &Line) -> Result<(), String> {
     let expected = match line {
-        Line::Call(call) => call.answer.as_deref().ok_or("no answer is named")?,
-        _ => "",
+        Line::Call(call) => call.answer.as_deref(),
+        Line::Group(on) => on.answer.as_deref(),
+        Line::Blank | Line::Spoil(_) => Some(""),
     };
+    let expected = expected.ok_or("no answer is named")?;
     match done(table, line)? {
         Some(answer) if text(&answer) != expected => {
             Err(format!("expected {expected}, answered {}", text(&answer)))
@@ -43,15 +45,17 @@ fn held(table: &mut Table, line: &Line) -> Result<(), String> {
 }
 
 /// Does what a line says; a call has an answer.
-fn done(table: &mut Table, line: &Line) -> Result<Option<Answer>, Mistake> {
+pub fn done(table: &mut Table, line: &Line) -> Result<Option<Answer>, Mistake> {
     match line {
         Line::Blank => Ok(None),
         Line::Spoil(spoil) => spoil.apply(table).map(|()| None),
+        Line::Group(on) => Ok(Some(table.perform_on_group(&on.call))),
         Line::Call(call) => Ok(Some(table.perform_with(&call.record(), call.beside))),
     }
 }
 
-fn text(answer: &Answer) -> String {
+/// An answer as `watch` prints it behind the number of its record.
+pub fn text(answer: &Answer) -> String {
     let mut text = Vec::new();
     // Writing to memory cannot fail.
     let done = watch::print_answer(&mut text, answer);

@@ -1,6 +1,7 @@
 //! What a broken host does to a stored session past every call.
 
 use crate::assemble::{number, Mistake, Words};
+use crate::group::{Activity, Group, Role};
 use crate::machine::Mode;
 use crate::message::State;
 use crate::session::Session;
@@ -28,9 +29,22 @@ pub enum Field {
     Multiplier,
     /// When the running detection time began.
     Timed,
+    Group(GroupField),
 }
 
-const NAMES: [(&str, Field); 7] = [
+#[derive(Clone, Copy, Debug, PartialEq, Eq)]
+pub enum GroupField {
+    /// Whether there is a group.
+    Mark,
+    Id,
+    Role,
+    Peer,
+    Dni,
+    Pw,
+    Ac,
+}
+
+const NAMES: [(&str, Field); 14] = [
     ("label", Field::Label),
     ("my", Field::My),
     ("remote", Field::Remote),
@@ -38,6 +52,13 @@ const NAMES: [(&str, Field); 7] = [
     ("state", Field::State),
     ("multiplier", Field::Multiplier),
     ("timed", Field::Timed),
+    ("group", Field::Group(GroupField::Mark)),
+    ("group-id", Field::Group(GroupField::Id)),
+    ("group-role", Field::Group(GroupField::Role)),
+    ("group-peer", Field::Group(GroupField::Peer)),
+    ("group-dni", Field::Group(GroupField::Dni)),
+    ("group-pw", Field::Group(GroupField::Pw)),
+    ("group-ac", Field::Group(GroupField::Ac)),
 ];
 
 /// The words of a line behind `spoil`.
@@ -69,26 +90,51 @@ impl Spoil {
 
     fn change(&self, session: &mut Session) -> Option<()> {
         match self.field {
-            Field::Label => session.settings.label = u32::try_from(self.value).ok()?,
-            Field::My => session.settings.discriminator = u32::try_from(self.value).ok()?,
+            Field::Label => session.settings.label = self.word()?,
+            Field::My => session.settings.discriminator = self.word()?,
             Field::Remote => {
-                let remote = u32::try_from(self.value).ok()?;
+                let remote = self.word()?;
                 session.remote_discriminator = (remote != 0).then_some(remote);
             }
-            Field::Mode => session.settings.mode = Mode(u8::try_from(self.value).ok()?),
-            Field::State => {
-                session.state = match self.value {
-                    0 => State::AdminDown,
-                    1 | 4 => State::Down,
-                    2 => State::Init,
-                    3 => State::Up,
-                    _ => return None,
-                };
-                session.taken_down_by_peer = self.value == 4;
-            }
-            Field::Multiplier => session.multiplier = u8::try_from(self.value).ok()?,
+            Field::Mode => session.settings.mode = Mode(self.octet()?),
+            Field::State => self.change_state(session)?,
+            Field::Multiplier => session.multiplier = self.octet()?,
             Field::Timed => session.detecting_since = self.value,
+            Field::Group(field) => self.change_group(field, &mut session.group)?,
         }
         Some(())
+    }
+
+    fn change_state(&self, session: &mut Session) -> Option<()> {
+        session.state = match self.value {
+            0 => State::AdminDown,
+            1 | 4 => State::Down,
+            2 => State::Init,
+            3 => State::Up,
+            _ => return None,
+        };
+        session.taken_down_by_peer = self.value == 4;
+        Some(())
+    }
+
+    fn change_group(&self, field: GroupField, group: &mut Group) -> Option<()> {
+        match field {
+            GroupField::Mark => group.mark = self.octet()?,
+            GroupField::Id => group.id = self.word()?,
+            GroupField::Role => group.role = Role(self.octet()?),
+            GroupField::Peer => group.peer = self.word()?,
+            GroupField::Dni => group.dni = self.word()?,
+            GroupField::Pw => group.pw = Activity(self.octet()?),
+            GroupField::Ac => group.ac = Activity(self.octet()?),
+        }
+        Some(())
+    }
+
+    fn word(&self) -> Option<u32> {
+        u32::try_from(self.value).ok()
+    }
+
+    fn octet(&self) -> Option<u8> {
+        u8::try_from(self.value).ok()
     }
 }

@@ -4,8 +4,10 @@
 mod circuits;
 mod compares;
 mod damage;
+mod dhc;
 mod draft;
 mod ending;
+mod groups;
 mod logs;
 mod readings;
 mod scenarios;
@@ -13,6 +15,7 @@ mod sequences;
 mod spacings;
 mod ties;
 
+use crate::assemble::Mistake;
 use crate::capture::{Kind, Record, HEADER};
 use crate::log::turn::log_of;
 use crate::party::SESSIONS_OF_ONE;
@@ -107,6 +110,12 @@ pub fn spaced(seed: u64) -> Vec<u8> {
     }
     maker.end();
     maker.capture
+}
+
+/// A list of calls on groups for a seed, with so many calls and what this program
+/// answers to each.
+pub fn groups(seed: u64, calls: u64) -> Result<String, Mistake> {
+    groups::list(seed, calls)
 }
 
 /// Two captures for a seed that differ in little, or not at all.

@@ -13,7 +13,7 @@ use crate::settings::OPEN_BODY;
 
 /// The scenarios, each with its weight in the styles Mixed, Steady, Faults,
 /// Damage and Edges.
-const SCENARIOS: [(Scenario, [u64; 5]); 29] = [
+const SCENARIOS: [(Scenario, [u64; 5]); 30] = [
     (Maker::tick, [8, 3, 4, 3, 10]),
     (Maker::open_well, [8, 2, 4, 4, 6]),
     (Maker::open_oddly, [10, 4, 4, 6, 6]),
@@ -43,6 +43,7 @@ const SCENARIOS: [(Scenario, [u64; 5]); 29] = [
     (Maker::send_two_wrongs, [4, 1, 2, 15, 1]),
     (Maker::hold_down, [4, 1, 4, 1, 6]),
     (Maker::send_pseudowire, [4, 1, 1, 12, 2]),
+    (Maker::send_dhc, [4, 2, 1, 10, 2]),
 ];
 
 pub(super) type Scenario = fn(&mut Maker);

@@ -29,7 +29,8 @@ impl Line {
             Answer::Report(report) => self.put_report(report),
             Answer::Written(written) => self.put_hex(written.octets()),
             Answer::Refused(refused) => self.put_place(refused),
-            Answer::Accepted => {}
+            // No record asks a group.
+            Answer::Accepted | Answer::Group(_) => {}
         }
         self.text.push(b'\n');
         &self.text

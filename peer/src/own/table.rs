@@ -3,7 +3,8 @@
 
 use super::index::Index;
 use crate::capture::{Kind, Record};
-use crate::message;
+use crate::dhc;
+use crate::message::{self, CHANNEL_DHC};
 use crate::party::{Party, SESSIONS_OF_ONE};
 use crate::refusal::{Refusal, Refused};
 use crate::session::Session;
@@ -60,7 +61,7 @@ impl Table {
                 .clone()
                 .any(|open| open.discriminator == settings.discriminator)
         {
-            return Err(Refusal::AlreadyOpen.into());
+            return Err(Refusal::InUse.into());
         }
         if own.count() >= SESSIONS_OF_ONE {
             return Err(Refusal::TableFull.into());
@@ -85,6 +86,11 @@ impl Table {
     fn receive(&mut self, reading: u64, label: u32, octets: &[u8]) -> Result<Answer, Refused> {
         self.judge_reading(reading)?;
         let session = self.session(label)?;
+        if message::channel(octets)? == CHANNEL_DHC {
+            // No record of a capture sets a group.
+            dhc::read(octets)?;
+            return Err(Refusal::NoGroup.into());
+        }
         let message = message::read(octets)?.message;
         if let Some(refusal) = session.refuses(&message, reading) {
             return Err(refusal.into());

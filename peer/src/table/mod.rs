@@ -1,13 +1,16 @@
 //! The table of 64 places with its clock, and the calls on it.
 
+mod groups;
+
 use crate::capture::{Kind, Record};
 use crate::machine::Mode;
-use crate::message;
+use crate::message::{self, CHANNEL_DHC};
 use crate::party::{Circuit, Party, SESSIONS_OF_ONE};
 use crate::refusal::{Refusal, Refused};
 use crate::session::{Report, Session, Written};
 use crate::settings::Settings;
 use crate::sound::{self, Scratch};
+pub use groups::{GroupCall, GroupName, Told};
 
 /// The number of places for sessions.
 pub const PLACES: usize = 64;
@@ -20,6 +23,8 @@ pub enum Answer {
     Accepted,
     Report(Report),
     Written(Written),
+    /// What a group tells of itself.
+    Group(Told),
     Refused(Refused),
 }
 
@@ -94,6 +99,12 @@ impl Table {
         self.sessions().find(|s| s.settings.label == label)
     }
 
+    /// Where the open session of a label is.
+    pub fn place(&self, label: u32) -> Option<usize> {
+        let party = Party::of(label);
+        self.place_of(Circuit { label, party }).ok()
+    }
+
     /// The session in a place, to be changed past every call.
     pub fn place_mut(&mut self, place: usize) -> Option<&mut Session> {
         self.places.get_mut(place)?.as_mut()
@@ -106,7 +117,7 @@ impl Table {
 
     /// Does a call. Refusal 26 comes before all others.
     pub fn perform_with(&mut self, record: &Record, beside: Beside) -> Answer {
-        if !sound::is_sound(&self.places, self.clock, &mut self.scratch) {
+        if !self.is_sound() {
             return Answer::Refused(Refusal::Table.into());
         }
         let (time, label, party) = (record.time, record.label, beside.party);
@@ -123,6 +134,10 @@ impl Table {
             Kind::WriteCv => self.write_cv(circuit),
         };
         answer.unwrap_or_else(Answer::Refused)
+    }
+
+    fn is_sound(&mut self) -> bool {
+        sound::is_sound(&self.places, self.clock, &mut self.scratch)
     }
 
     fn tick(&mut self, reading: u64) -> Result<Answer, Refused> {
@@ -161,7 +176,7 @@ impl Table {
                 || open.settings.discriminator == settings.discriminator
         });
         if taken {
-            return Err(Refusal::AlreadyOpen);
+            return Err(Refusal::InUse);
         }
         if own().count() >= SESSIONS_OF_ONE {
             return Err(Refusal::TableFull);
@@ -198,6 +213,9 @@ impl Table {
         octets: &[u8],
     ) -> Result<Answer, Refused> {
         let place = self.place_for(reading, circuit)?;
+        if message::channel(octets)? == CHANNEL_DHC {
+            return self.coordinate(reading, circuit, octets);
+        }
         let message = message::read(octets)?.message;
         if let Some(refusal) = self.session_at(place)?.refuses(&message, reading) {
             return Err(refusal.into());
@@ -252,7 +270,8 @@ impl Table {
     }
 
     /// Takes the reading of an accepted call, before the call acts: it
-    /// becomes the clock, and TIMER is given to every session.
+    /// becomes the clock, and TIMER is given to every session. So is a loss looked
+    /// for that takes a group's PW, whatever label the call is on.
     fn accept(&mut self, reading: u64) {
         self.clock = reading;
         for session in self.places.iter_mut().flatten() {
