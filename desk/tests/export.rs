@@ -122,8 +122,10 @@ fn dhc_messages_come_back() {
     let capture = peer::assemble::assemble(text).expect("a capture");
     assert_eq!(comes_back("dhc", &capture), 2);
     let (pcapng, _) = export(&capture, Frames::default());
-    let refused = "refused 5 at 2: none of the three channel types";
-    let expected = [2, 3].map(|record| format!("record {record}: {refused}"));
+    let expected = [
+        "record 2: refused 24: a DHC message, and a capture has no groups to take it",
+        "record 3: refused 3 at 9: the message ends before its layout does",
+    ];
     assert_eq!(comments(&pcapng), expected);
 }
 

@@ -332,7 +332,7 @@ fn the_answers_are_those_of_watch() {
         }));
     }
     let all = [
-        "1", "10", "11", "12", "14", "2", "3", "4", "5", "6", "7", "8", "9",
+        "1", "10", "11", "12", "14", "2", "24", "25", "3", "4", "5", "6", "7", "8", "9",
     ];
     assert_eq!(refusals.into_iter().collect::<Vec<_>>(), all);
 }
@@ -345,7 +345,7 @@ const SAID: &str = "
 0 102 lock => refused 2: no open session has this label
 0 100 receive => refused 3 at 0: the message ends before its layout does
 0 100 receive hex 20000022 0000 => refused 4 at 0: not an associated channel header of version 0
-0 100 receive hex 10000021 0000 => refused 5 at 2: none of the three channel types
+0 100 receive hex 10000021 0000 => refused 5 at 2: none of the four channel types
 0 100 receive cc up my=5 your=17 version=0 => refused 6 at 4: BFD version not 1
 0 100 receive cc up my=5 your=17 auth => refused 6 at 5: A or M set
 0 100 receive cc up my=5 your=17 mult=0 => refused 6 at 6: multiplier 0

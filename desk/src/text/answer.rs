@@ -129,7 +129,7 @@ fn reason(record: &Record, number: u8, place: Option<usize>) -> Option<&'static 
         2 => "no open session has this label",
         3 => "the message ends before its layout does",
         4 => "not an associated channel header of version 0",
-        5 => "none of the three channel types",
+        5 => "none of the four channel types",
         6 => bfd_rule(place?)?,
         7 => mep_id_rule(record.body, place?)?,
         8 => fault_rule(place?),
@@ -138,6 +138,8 @@ fn reason(record: &Record, number: u8, place: Option<usize>) -> Option<&'static 
         11 => "the label is open already, or the discriminator in its party",
         12 => "all 32 sessions of its party are open",
         14 => "a BFD message for a locked session",
+        24 => "a DHC message, and a capture has no groups to take it",
+        25 => "a TLV of a DHC message, or neither of its two",
         _ => return None,
     })
 }
