@@ -1,0 +1,4 @@
+pub mod GroupPlains
+pub mod GroupParts
+pub mod SearchBy
+pub mod SeenOver

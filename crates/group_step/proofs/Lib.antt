@@ -1,0 +1,3 @@
+pub mod GroupPlaces
+pub mod GroupSteps
+pub mod GroupAsks

@@ -1,0 +1,2 @@
+pub mod GroupStepping
+pub mod GroupSeeing

@@ -1,0 +1,3 @@
+pub mod AskTwice
+pub mod EitherLent
+pub mod ThinHeard

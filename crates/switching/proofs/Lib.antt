@@ -1,0 +1,10 @@
+pub mod Regrouped
+pub mod Looked
+pub mod Called
+pub mod Alone
+pub mod Commanded
+pub mod Kept
+pub mod Asked
+pub mod Answered
+pub mod Switching
+pub mod Worked

@@ -1,0 +1,1 @@
+// What dual-homing groups come to, from the accepted commands alone. What matters stands in specs/ and proofs/.
