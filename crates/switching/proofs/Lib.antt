@@ -8,3 +8,4 @@ pub mod Asked
 pub mod Answered
 pub mod Switching
 pub mod Worked
+pub mod Demand

@@ -1,3 +1,4 @@
 pub mod Groups
 pub mod Switching
 pub mod Worked
+pub mod Demand

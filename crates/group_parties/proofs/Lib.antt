@@ -1,0 +1,4 @@
+pub mod Sights
+pub mod Others
+pub mod Own
+pub mod Isolation
