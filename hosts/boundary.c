@@ -63,6 +63,8 @@ static void check_opened(void) {
     need(memcmp(&row[0].settings, &told, offsetof(struct korvezul_settings, mode) + 1) == 0, "settings");
     need(row[0].timed == 0x010203 && row[0].state == 1 && row[0].crossing == 0, "timed, state, crossing");
     need(row[0].peer.remote == 0 && row[0].peer.multiplier == 3, "peer of a new session");
+    static const struct korvezul_group none = {0, 0, 0, 0, 0, 0, 0};
+    need(memcmp(&row[0].group, &none, sizeof none) == 0, "no group in a new session, whatever lay in its place");
     need(((const unsigned char *)&row[1])[0] == 0xa5, "a record next to it");
 }
 

@@ -224,7 +224,16 @@ fn check_layout() {
     let peer = Peer { remote: heard.my, multiplier: 5, diagnostic: 9, owed: 1 };
     assert_eq!(
         t.row[0],
-        Session { timed: 0x010204, crossed: 0x010206, conditions, settings, peer, state: 1, crossing: 1 }
+        Session {
+            timed: 0x010204,
+            crossed: 0x010206,
+            conditions,
+            settings,
+            peer,
+            state: 1,
+            crossing: 1,
+            group: Group::default(),
+        }
     );
     assert_eq!(t.head, Head { clock: 0x010206, occupied: 1 });
 }

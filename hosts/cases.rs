@@ -676,13 +676,15 @@ fn read_fault_line(m: &[u8]) -> Shown {
     read(r.answer, r.place, r.fault == Fault::default(), fault_fields(r.fault))
 }
 
-/// A DHC message, which is answered without a place. On a label of a table it is another channel.
+/// A DHC message, which is answered without a place. On a label of a table without groups it is refused as its
+/// reader has it, else 24; what the reader takes for another channel is another reader's.
 fn read_dhc_line(m: &[u8]) -> Shown {
     let r = read_dhc(m);
     let mut t = empty_table()?;
     let opened = t.open(opened_by_us(settings(LABEL, 17, 1_000_000)), 0);
     let received = t.receive(ours(LABEL), m, 0);
-    if r.answer == 0 && (opened, received) != (0, 5) {
+    let expected = if r.answer == 0 { 24 } else { r.answer };
+    if r.answer != 5 && (opened, received) != (0, expected) {
         return Err(format!("received it is answered {received}"));
     }
     match r.answer {

@@ -195,7 +195,7 @@ fn at_every_reading() {
 #[test]
 fn the_captures_of_the_repository() {
     let paths = [captures_of("captures/data"), captures_of("questions/data")].concat();
-    assert_eq!(paths.len(), 64 + 25);
+    assert_eq!(paths.len(), 65 + 25);
     let mut met = Met::default();
     for (seed, path) in paths.iter().enumerate() {
         let capture = std::fs::read(path).unwrap();
