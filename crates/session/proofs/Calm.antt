@@ -43,7 +43,3 @@ calm-fits s clock e = rw (eqb-true (s .crossing) 0 (and-both (eqb (s .crossing) 
 
 pub calm-sound : (s : Session) (clock : ℕ) → calmOf s ≡ true → conditionsSound (s .conditions) clock ≡ true
 calm-sound s clock e = none-filled (s .conditions) clock (and-both (eqb (s .crossing) 0) (emptyOf s) e .1)
-
-pub and-true : (a : Bool) → a ≡ a && true
-and-true true = refl
-and-true false = refl

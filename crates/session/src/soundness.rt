@@ -96,13 +96,14 @@ fn ungrouped_sound(s: Session, clock: u64) -> bool
     false
 }
 
-// The clauses of 26 for one record at a clock.
+// The clauses of 26 for one record at a clock. The group is asked last: asked first, what comes behind it
+// would be loaded ahead of it.
 pub fn session_sound(s: Session, clock: u64) -> bool
     ensures { λ r. ⌜ r ≡ sessionSound s clock ⌝ }
 {
-    let group = s.group;
-    if homing::group_fits(s.settings.label, group) {
-        return ungrouped_sound(s, clock);
+    if ungrouped_sound(s, clock) {
+        let group = s.group;
+        return homing::group_fits(s.settings.label, group);
     }
     false
 }
