@@ -481,7 +481,7 @@ pub fn read_fault(message: &[u8]) -> FaultRead {
     unsafe { korvezul_read_fault(message.as_ptr(), message.len()) }
 }
 
-/// A message of dual-homing coordination, which no table knows.
+/// A message of dual-homing coordination. No call sets a group yet, so a table answers it 24 at best.
 pub fn read_dhc(message: &[u8]) -> DhcRead {
     unsafe { korvezul_read_dhc(message.as_ptr(), message.len()) }
 }
