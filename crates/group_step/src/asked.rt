@@ -2,6 +2,7 @@
 use crate::GroupRequest;
 use crate::GroupSeen;
 use crate::GroupTarget;
+use coordination::DHC_CHANNEL;
 use homing::GroupSettings;
 use octets::both;
 use scan::Summary;
@@ -10,6 +11,7 @@ use session::Session;
 ghost use mathlib.Core.Path.{_≡_};
 ghost use mathlib.Core.Bool.{_&&_, cond};
 ghost use Rattle.table.specs.Places.{firstOn};
+ghost use Rattle.grouping.specs.Commands.{isDhc};
 ghost use Rattle.grouping.specs.Grouped.{holdsGroup};
 ghost use Rattle.group_step.specs.GroupStepping.{namedBy, heldBy, heardOn, targetOf, plainOf, seenOf, heardOf};
 
@@ -103,6 +105,14 @@ pub fn seen_by(s: Summary, second: usize, holder: usize, t: GroupTarget) -> Grou
         second: second < 64,
         taken: holder < 64,
     }
+}
+
+// A message is a DHC message by its header: a group takes it, and no session.
+pub fn is_dhc(m: &[u8]) -> bool
+    ensures { λ r. ⌜ r ≡ isDhc (now (m .entry)) ⌝ }
+{
+    let refusal = gach::header_refusal(m);
+    both(refusal == 0, octets::get_u16(m, 2) == DHC_CHANNEL)
 }
 
 // A DHC message that came on a label.

@@ -7,6 +7,7 @@ mod effect;
 
 pub use asked::group_target;
 pub use asked::heard;
+pub use asked::is_dhc;
 pub use asked::is_holder;
 pub use asked::plain_target;
 pub use asked::seen_by;

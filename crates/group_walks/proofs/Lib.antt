@@ -1,3 +1,4 @@
 pub mod AskTwice
 pub mod EitherLent
+pub mod ThinGiven
 pub mod ThinHeard

@@ -8,5 +8,8 @@ pub mod ThinEnd
 pub mod ThinCall
 pub mod ThinAsk
 pub mod ThinWrite
+pub mod CommandPlains
+pub mod OneCommand
+pub mod GroupRow
 pub mod Places
 pub mod TwoRuns

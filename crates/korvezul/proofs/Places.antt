@@ -14,6 +14,8 @@ use Rattle.rules.proofs.Circuit.Laws.{mir as circuit}
 use Rattle.conditions.proofs.Condition.Laws.{mir as condition}
 use Rattle.conditions.proofs.Conditions.Laws.{mir as conditions}
 use Rattle.homing.proofs.Group.Laws.{mir as group}
+use Rattle.homing.proofs.GroupSettings.Laws.{mir as group-settings}
+use Rattle.homing.proofs.GroupReport.Laws.{mir as group-report}
 use Rattle.session.proofs.Peer.Laws.{mir as peer}
 use Rattle.session.proofs.Session.Laws.{mir as session}
 use Rattle.table.proofs.Head.Laws.{mir as head}
@@ -21,6 +23,10 @@ use Rattle.live.proofs.LiveQuestion.Laws.{mir as question}
 use Rattle.live.proofs.LiveCause.Laws.{mir as cause}
 use Rattle.korvezul.proofs.OpeningFor.Laws.{mir as opening}
 use Rattle.korvezul.proofs.ReportAnswer.Laws.{mir as report}
+use Rattle.korvezul.proofs.groups.GroupFor.Laws.{mir as grouping}
+use Rattle.korvezul.proofs.groups.GroupName.Laws.{mir as group-name}
+use Rattle.korvezul.proofs.groups.AcOf.Laws.{mir as ac-of}
+use Rattle.korvezul.proofs.groups.GroupAnswer.Laws.{mir as group-answer}
 use Rattle.fields.proofs.fields.PacketFields.Laws.{mir as packet}
 use Rattle.fields.proofs.fields.FaultFields.Laws.{mir as fault}
 use Rattle.fields.proofs.readers.CcRead.Laws.{mir as cc-read}
@@ -65,6 +71,18 @@ circuit-laid = record { octets = refl; aligned = refl; fields = (refl, (refl, re
 pub opening-laid : Laid opening 120 8 (0 ∷ 112 ∷ [])
 opening-laid = record { octets = refl; aligned = refl; fields = (refl, (refl, refl)) }
 
+pub group-settings-laid : Laid group-settings 20 4 (0 ∷ 4 ∷ 8 ∷ 12 ∷ 16 ∷ [])
+group-settings-laid = record { octets = refl; aligned = refl; fields = (refl, (refl, (refl, (refl, (refl, refl))))) }
+
+pub grouping-laid : Laid grouping 24 4 (0 ∷ 20 ∷ [])
+grouping-laid = record { octets = refl; aligned = refl; fields = (refl, (refl, refl)) }
+
+pub group-name-laid : Laid group-name 8 4 (0 ∷ 4 ∷ [])
+group-name-laid = record { octets = refl; aligned = refl; fields = (refl, (refl, refl)) }
+
+pub ac-of-laid : Laid ac-of 12 4 (0 ∷ 8 ∷ [])
+ac-of-laid = record { octets = refl; aligned = refl; fields = (refl, (refl, refl)) }
+
 pub key-laid : Laid key 16 4 (0 ∷ 4 ∷ 8 ∷ 12 ∷ 13 ∷ 14 ∷ [])
 key-laid = record { octets = refl; aligned = refl; fields = (refl, (refl, (refl, (refl, (refl, (refl, refl)))))) }
 
@@ -88,6 +106,12 @@ head-laid = record { octets = refl; aligned = refl; fields = (refl, (refl, refl)
 
 pub report-laid : Laid report 12 4 (0 ∷ 4 ∷ 5 ∷ 6 ∷ 7 ∷ 8 ∷ 9 ∷ 10 ∷ [])
 report-laid = record { octets = refl; aligned = refl; fields = (refl, (refl, (refl, (refl, (refl, (refl, (refl, (refl, refl)))))))) }
+
+pub group-report-laid : Laid group-report 3 1 (0 ∷ 1 ∷ 2 ∷ [])
+group-report-laid = record { octets = refl; aligned = refl; fields = (refl, (refl, (refl, refl))) }
+
+pub group-answer-laid : Laid group-answer 8 4 (0 ∷ 4 ∷ [])
+group-answer-laid = record { octets = refl; aligned = refl; fields = (refl, (refl, refl)) }
 
 pub question-laid : Laid question 28 4 (0 ∷ 8 ∷ 24 ∷ [])
 question-laid = record { octets = refl; aligned = refl; fields = (refl, (refl, (refl, refl))) }

@@ -1,4 +1,5 @@
 pub mod Calling
+pub mod Commanding
 pub mod Runs
 pub mod Version
 pub mod Configurations

@@ -6,4 +6,4 @@ abbrev versionOf : ℕ → ℕ → ℕ → ℕ
 versionOf major minor patch = major * 65536 + minor * 256 + patch
 
 abbrev pub version : ℕ
-version = versionOf 7 0 0
+version = versionOf 7 1 0

@@ -3,6 +3,7 @@
 // one that is not open. Each call is one step of the table; a refusal changes nothing. No call asks
 // anything of its caller.
 mod answers;
+mod groups;
 mod logs;
 mod messages;
 mod provisioning;
@@ -14,6 +15,8 @@ use answers::number;
 use answers::put_cc;
 use answers::put_cv;
 use answers::reported;
+use group_step::is_dhc;
+use groups::coordinate_lent;
 use requests::aimed_by;
 use requests::arrival;
 use requests::close_request;
@@ -37,8 +40,10 @@ use step::Request;
 use table::Head;
 ghost use mathlib.Core.Path.{_≡_};
 ghost use Rattle.rules.specs.Calls.{Tick, Open, On, Close, Lock, Unlock, Receive, ReportOn, WriteCc, WriteCv, numberOnly, writes};
+ghost use Rattle.grouping.specs.Commands.{receivedOn, silent};
 ghost use Rattle.step.specs.Stepping.{tableOf};
 ghost use Rattle.korvezul.specs.Calling.{meantBy, ownSettings, called, saidIn, obeyLent, openLent, emptying};
+ghost use Rattle.korvezul.specs.Commanding.{commanded};
 
 // A report's answer, numbers alone so that it can be returned to any host: 0 and the seven numbers
 // of the report, or a refusal and seven noughts.
@@ -167,9 +172,8 @@ pub extern "C" fn korvezul_unlock(
     number(o)
 }
 
-// A message of any bytes, received on a label.
-#[no_mangle]
-pub extern "C" fn korvezul_receive(
+// A message of any bytes that is no DHC message by its header, on the label of a session.
+fn receive_lent(
     row: &mut [Session],
     head: &mut Head,
     circuit: Circuit,
@@ -183,6 +187,23 @@ pub extern "C" fn korvezul_receive(
     let o = receive_at(row, x, message);
     *head = o.head;
     number(o)
+}
+
+// A message of any bytes, received on a label: a DHC message is for a group, any other for a session.
+#[no_mangle]
+pub extern "C" fn korvezul_receive(
+    row: &mut [Session],
+    head: &mut Head,
+    circuit: Circuit,
+    message: &[u8],
+    reading: u64,
+) -> u32
+    ensures { λ r. ⌜ record { said = silent r; table = tableOf (now (row .exit)) (now (head .exit)) } ≡ commanded (tableOf (now (row .entry)) (now (head .entry))) (receivedOn (meantBy circuit) (now (message .entry)) reading) ⌝ }
+{
+    if is_dhc(message) {
+        return coordinate_lent(row, head, circuit, message, reading);
+    }
+    receive_lent(row, head, circuit, message, reading)
 }
 
 // The report on a label, at the clock.

@@ -2,10 +2,10 @@
 ghost use mathlib.Core.Path.{_≡_};
 ghost use Rattle.korvezul.specs.Version.{version};
 
-// 7.0.0: a record has room for a dual-homing group.
+// 7.1.0: groups are set, asked of and reached by DHC messages.
 #[no_mangle]
 pub extern "C" fn korvezul_version() -> u32
     ensures { λ r. ⌜ r ≡ version ⌝ }
 {
-    458752
+    459008
 }
