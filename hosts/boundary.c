@@ -2,8 +2,8 @@
  * What crosses between a host and the library, held to this header from outside: the version, every
  * field of a record and of a message at its place, why a session is as it is, where each reader says that
  * a message went wrong, each mark and each number that a writer must refuse, MEP-IDs of every form, rows
- * of another length lent to each call, calls in the name of each party, configurations, the records of a log, and
- * DHC messages.
+ * of another length lent to each call, calls in the name of each party, configurations, the records of a log, DHC
+ * messages, and dual-homing groups.
  * hosts/run compares what is printed with hosts/timeline-boundary.
  */
 #include <inttypes.h>
@@ -21,7 +21,7 @@ static void need(int holds, const char *what) {
 }
 
 static void check_version(void) {
-    need(KORVEZUL_VERSION == 0x070000, "version of the header");
+    need(KORVEZUL_VERSION == 0x070100, "version of the header");
     need(korvezul_version() == KORVEZUL_VERSION, "version of the library");
     printf("version %d.%d.%d: header and library agree\n", KORVEZUL_VERSION_MAJOR, KORVEZUL_VERSION_MINOR,
            KORVEZUL_VERSION_PATCH);
@@ -454,7 +454,9 @@ static void absent(void) {
 }
 
 /* The calls on a table, each accepted on that of `kept`: a session of each party that is crossed, both with
- * one discriminator, and its CC. */
+ * one discriminator, and its CC; and a group of each party, ours a working PE, theirs a protection PE. The ID of the
+ * group is the label of the session, its service PW has the second label behind that, and its DNI-PW, which is UP, the
+ * third. */
 struct table {
     struct korvezul_session row[KORVEZUL_RECORDS + 1];
     struct korvezul_head head;
@@ -468,6 +470,9 @@ static const struct korvezul_settings usual = {
     .discriminator = 17,
     .period = 1000000};
 static uint8_t message[KORVEZUL_CC_OCTETS];
+#define SERVICE 2
+#define DNI 3
+#define PEER 55
 /* what the calls are on: of the label before it an open session */
 static struct korvezul_circuit circuit;
 
@@ -496,12 +501,38 @@ static uint32_t write_cv(size_t n) {
     return korvezul_write_cv(LENT(n), circuit, lent.buffer, sizeof lent.buffer);
 }
 
+static struct korvezul_group_name group(void) {
+    struct korvezul_group_name name = {.party = circuit.party, .id = circuit.label};
+    return name;
+}
+static uint32_t set_another(size_t n) {
+    struct korvezul_grouping another = {.party = circuit.party};
+    another.settings.id = circuit.label + 1;
+    another.settings.service = circuit.label;
+    another.settings.dni = circuit.label + DNI;
+    return korvezul_set_group(LENT(n), another, 1);
+}
+static uint32_t set_ac(size_t n) {
+    struct korvezul_ac_of active = {.group = group(), .ac = KORVEZUL_ACTIVE};
+    return korvezul_set_ac(LENT(n), active, 1);
+}
+static uint32_t return_it(size_t n) { return korvezul_return_group(LENT(n), group(), 1); }
+static uint32_t ask(size_t n) { return korvezul_ask_group(LENT(n), group()).answer; }
+static uint32_t receive_dhc(size_t n) {
+    struct korvezul_dhc d = {.id = circuit.label, .switching = {.source = PEER, .present = 1, .switches = 1}};
+    struct korvezul_circuit on = {.label = circuit.label + DNI, .party = circuit.party};
+    uint8_t m[KORVEZUL_DHC_SWITCHING_OCTETS];
+    need(korvezul_write_dhc_message(m, sizeof m, d) == 0, "DHC message");
+    return korvezul_receive(LENT(n), on, m, sizeof m, 1);
+}
+
 static const struct {
     const char *name;
     uint32_t (*call)(size_t);
-} calls[] = {{"empty", empty},       {"tick", tick},         {"open", open_next},  {"close", close_it},
-             {"lock", lock},         {"unlock", unlock},     {"receive", receive}, {"report", report},
-             {"write CC", write_cc}, {"write CV", write_cv}, {"why", why}};
+} calls[] = {{"empty", empty},           {"tick", tick},           {"open", open_next},  {"close", close_it},
+             {"lock", lock},             {"unlock", unlock},       {"receive", receive}, {"report", report},
+             {"write CC", write_cc},     {"write CV", write_cv},   {"why", why},         {"set group", set_another},
+             {"AC of a group", set_ac},  {"return", return_it},    {"ask", ask},         {"receive DHC", receive_dhc}};
 #define NAMES_NONE 2 /* the first two name no party */
 
 static void opened_and_crossed(struct korvezul_circuit on) {
@@ -512,6 +543,26 @@ static void opened_and_crossed(struct korvezul_circuit on) {
          "crossed CC taken");
 }
 
+/* The two PWs of a group, the second of them heard; and the group, with numbers that tell its fields apart. */
+static void homed(struct korvezul_circuit by, uint8_t role) {
+    const struct korvezul_group_settings s = {
+        .id = by.label, .peer = PEER, .service = by.label + SERVICE, .dni = by.label + DNI, .role = role};
+    const struct korvezul_grouping grouping = {.settings = s, .party = by.party};
+    const struct korvezul_circuit dni = {.label = s.dni, .party = by.party};
+    struct korvezul_opening opening = {.settings = usual, .party = by.party};
+    struct korvezul_packet init = {.my = 9, .state = KORVEZUL_INIT, .multiplier = 3};
+    uint8_t m[KORVEZUL_CC_OCTETS];
+    for (uint32_t i = SERVICE; i <= DNI; i++) {
+        opening.settings.label = by.label + i;
+        opening.settings.discriminator = usual.discriminator + i;
+        need(korvezul_open(kept.row, KORVEZUL_RECORDS, &kept.head, opening, 0) == 0, "open");
+    }
+    init.your = opening.settings.discriminator;
+    need(korvezul_write_cc_message(m, sizeof m, init) == 0, "CC");
+    need(korvezul_receive(kept.row, KORVEZUL_RECORDS, &kept.head, dni, m, sizeof m, 0) == 0, "heard CC");
+    need(korvezul_set_group(kept.row, KORVEZUL_RECORDS, &kept.head, grouping, 0) == 0, "group");
+}
+
 static void prepare(void) {
     memset(&kept, 0xa5, sizeof kept);
     need(korvezul_empty(kept.row, KORVEZUL_RECORDS, &kept.head) == 0, "empty");
@@ -519,6 +570,8 @@ static void prepare(void) {
     need(korvezul_write_cc_message(message, sizeof message, packet) == 0, "crossed CC");
     opened_and_crossed(korvezul_ours(100));
     opened_and_crossed(korvezul_theirs(500100));
+    homed(korvezul_ours(100), KORVEZUL_WORKING);
+    homed(korvezul_theirs(500100), KORVEZUL_PROTECTION);
     packet.your = usual.discriminator;
     need(korvezul_write_cc_message(message, sizeof message, packet) == 0, "CC");
 }
@@ -545,8 +598,8 @@ static void rows(void) {
     }
 }
 
-/* Each call that names a party, on a label of ours and on one of theirs: no other than its own party sees
- * the label, and 256 is another number than 0. */
+/* Each call that names a party, on a label of ours and on one of theirs, or on their groups: no other than its own
+ * party sees them, and 256 is another number than 0. */
 static void parties(void) {
     static const uint32_t labels[] = {100, 500100}, numbers[] = {0, 1, 2, 256, 257, UINT32_MAX};
     need(korvezul_party_of(499999) == KORVEZUL_OURS && korvezul_party_of(500000) == KORVEZUL_THEIRS,
@@ -574,6 +627,12 @@ static void names(void) {
         printf("mode %" PRIu32 " %s\n", i, korvezul_mode_name(i));
     for (uint32_t i = 0; i <= 2; i++)
         printf("party %" PRIu32 " %s\n", i, korvezul_party_name(i));
+    for (uint32_t i = 0; i <= 2; i++)
+        printf("role %" PRIu32 " %s\n", i, korvezul_role_name(i));
+    for (uint32_t i = 0; i <= 2; i++)
+        printf("PW or AC %" PRIu32 " %s\n", i, korvezul_activity_name(i));
+    for (uint32_t i = 0; i <= 4; i++)
+        printf("forwarding %" PRIu32 " %s\n", i, korvezul_forwarding_name(i));
 }
 
 /* A configuration with every octet of its two numbers another, written and read, and each answer of
@@ -861,6 +920,293 @@ static void dhc_numbers(void) {
     need(korvezul_write_dhc_message(buffer, 0, dhc) == KORVEZUL_RANGE, "10 before 13");
 }
 
+/* Dual-homing groups: what the calls below name, on a copy of `kept`, of which a refusal changes no byte. */
+static struct korvezul_grouping setting;
+static struct korvezul_ac_of active;
+static struct korvezul_group_name name;
+static struct korvezul_circuit arrival;
+static uint8_t coordinating[KORVEZUL_DHC_OCTETS];
+static size_t coordinating_octets, lent_records;
+static uint64_t group_reading;
+
+static uint32_t set_it(void) { return korvezul_set_group(LENT(lent_records), setting, group_reading); }
+static uint32_t ac_it(void) { return korvezul_set_ac(LENT(lent_records), active, group_reading); }
+static uint32_t give_back(void) { return korvezul_return_group(LENT(lent_records), name, group_reading); }
+static uint32_t coordinate(void) {
+    return korvezul_receive(LENT(lent_records), arrival, coordinating, coordinating_octets, group_reading);
+}
+
+/* Asking leaves every byte, answered or refused, and tells nothing beside a refusal. */
+static struct korvezul_group_answer told_of(struct korvezul_group_name of) {
+    static struct table before;
+    struct korvezul_group_answer a;
+    memcpy(&before, &lent, sizeof lent);
+    a = korvezul_ask_group(LENT(lent_records), of);
+    need(memcmp(&before, &lent, sizeof lent) == 0, "asking changes nothing");
+    need(a.answer == 0 || (a.group.pw | a.group.ac | a.group.forwarding) == 0, "three noughts beside a refusal");
+    return a;
+}
+static uint32_t ask_it(void) { return told_of(name).answer; }
+
+static void answer_of(uint32_t (*call)(void)) {
+    uint32_t answer;
+    memcpy(&lent, &kept, sizeof kept);
+    answer = call();
+    need(answer == KORVEZUL_ACCEPTED || memcmp(&lent, &kept, sizeof kept) == 0, "a byte beside a refusal");
+    printf(" %" PRIu32, answer);
+}
+
+/* What the calls name where they are accepted, at clock 5. */
+static void accepted_arguments(void) {
+    static const struct korvezul_group_settings s = {
+        .id = 101, .peer = PEER, .service = 100, .dni = 100 + DNI, .role = KORVEZUL_WORKING};
+    static const struct korvezul_dhc both = {.id = 100,
+                                             .status = {.source = PEER, .present = 1},
+                                             .switching = {.source = PEER, .present = 1}};
+    setting = korvezul_grouped_by_us(s);
+    name = active.group = korvezul_our_group(100);
+    active.ac = KORVEZUL_ACTIVE;
+    arrival = korvezul_ours(100 + DNI);
+    need(korvezul_write_dhc_message(coordinating, sizeof coordinating, both) == 0, "DHC message");
+    coordinating_octets = sizeof coordinating;
+    lent_records = KORVEZUL_RECORDS;
+    group_reading = 5;
+}
+
+/* Every field of a group where the library put it: in the record of its service PW, the first that was opened, and in
+ * no other. */
+static void check_group(void) {
+    const struct korvezul_group_settings s = {
+        .id = 0x61626364, .peer = 0x65666768, .service = 100, .dni = 100 + SERVICE, .role = KORVEZUL_PROTECTION};
+    const struct korvezul_group *g = &lent.row[0].group;
+    const struct korvezul_group_name by_id = korvezul_our_group(s.id);
+    const struct korvezul_ac_of on = {.group = by_id, .ac = KORVEZUL_ACTIVE};
+    struct korvezul_group_answer a;
+    memcpy(&lent, &kept, sizeof kept);
+    need(korvezul_set_group(LENT(KORVEZUL_RECORDS), korvezul_grouped_by_us(s), 6) == 0, "group");
+    need(g->id == s.id && g->peer == s.peer && g->dni == s.dni, "ID, peer and DNI-PW of a group");
+    need(g->set == 1 && g->role == 1 && g->pw == 0 && g->ac == 0, "mark, role, PW and AC of a group");
+    need(korvezul_set_ac(LENT(KORVEZUL_RECORDS), on, 7) == 0 && g->ac == 1 && g->pw == 0, "AC of a group");
+    a = korvezul_ask_group(LENT(KORVEZUL_RECORDS), by_id);
+    need(a.answer == 0 && a.group.pw == 0 && a.group.ac == 1, "PW and AC of a group that is asked");
+    need(lent.head.clock == 7 && lent.head.occupied == kept.head.occupied, "head behind a group");
+    need(memcmp(&lent.row[1], &kept.row[1], sizeof kept.row - sizeof kept.row[0]) == 0, "a record without the group");
+    printf("every field of a group is where the header has it, in the record of its service PW alone\n");
+}
+
+/* Each refusal while the ones behind it hold too, then accepted. */
+static void group_refusals(void) {
+    const uint64_t below = 4, above = UINT64_C(1) << 63;
+    accepted_arguments();
+    printf("set group: row, readings, labels, one of them, theirs, one for both, service PW taken, ID taken:");
+    setting.settings.id = 100;
+    setting.settings.service = setting.settings.dni = 999;
+    group_reading = below;
+    lent_records = KORVEZUL_RECORDS - 1;
+    answer_of(set_it);
+    lent_records = KORVEZUL_RECORDS;
+    answer_of(set_it);
+    group_reading = above;
+    answer_of(set_it);
+    group_reading = 5;
+    answer_of(set_it);
+    setting.settings.service = 100 + SERVICE;
+    answer_of(set_it);
+    setting.settings.dni = 500100;
+    answer_of(set_it);
+    setting.settings.dni = 100 + SERVICE;
+    answer_of(set_it);
+    setting.settings.dni = 100;
+    setting.settings.id = 101;
+    answer_of(set_it);
+    setting.settings.service = 100 + DNI;
+    setting.settings.id = 100;
+    answer_of(set_it);
+    setting.settings.id = 101;
+    answer_of(set_it);
+    printf("\nAC, return and ask: row, reading, ID, theirs, nobody's:");
+    for (int k = 0; k < 3; k++) {
+        uint32_t (*const call)(void) = k == 0 ? ac_it : k == 1 ? give_back : ask_it;
+        accepted_arguments();
+        name.id = active.group.id = 999;
+        group_reading = below;
+        lent_records = KORVEZUL_RECORDS - 1;
+        answer_of(call);
+        lent_records = KORVEZUL_RECORDS;
+        answer_of(call);
+        group_reading = 5;
+        answer_of(call);
+        name.id = active.group.id = 500100;
+        answer_of(call);
+        name.id = active.group.id = 100;
+        name.party = active.group.party = 256;
+        answer_of(call);
+        name.party = active.group.party = KORVEZUL_OURS;
+        answer_of(call);
+        printf(k < 2 ? "," : "\n");
+    }
+}
+
+/* The same of a DHC message. */
+static void dhc_refusals(void) {
+    accepted_arguments();
+    printf("DHC message: row, reading, label, three octets, nibble, channel, cut, no TLV, ID, label, either source:");
+    coordinating[0] = 0;
+    coordinating_octets = 3;
+    arrival = korvezul_ours(999);
+    group_reading = 4;
+    lent_records = 0;
+    answer_of(coordinate);
+    lent_records = KORVEZUL_RECORDS;
+    answer_of(coordinate);
+    group_reading = 5;
+    answer_of(coordinate);
+    arrival = korvezul_ours(100);
+    answer_of(coordinate);
+    coordinating_octets = sizeof coordinating - 1;
+    coordinating[3] = 0x0a;
+    answer_of(coordinate);
+    coordinating[0] = 0x10;
+    answer_of(coordinate);
+    coordinating[3] = 9;
+    coordinating[9] = 0x2c;
+    answer_of(coordinate);
+    coordinating[9] = 0;
+    coordinating[7]++;
+    answer_of(coordinate);
+    coordinating[9] = 0x2c;
+    coordinating_octets = sizeof coordinating;
+    answer_of(coordinate);
+    coordinating[7]--;
+    answer_of(coordinate);
+    arrival = korvezul_ours(100 + DNI);
+    coordinating[23]++;
+    answer_of(coordinate);
+    coordinating[23]--;
+    coordinating[47]++;
+    answer_of(coordinate);
+    coordinating[47]--;
+    answer_of(coordinate);
+    printf("\n");
+}
+
+static void print_told(struct korvezul_group_name of) {
+    struct korvezul_group_answer a = told_of(of);
+    need(a.answer == KORVEZUL_ACCEPTED, "a group that is there");
+    printf(" %s, %s, %s", korvezul_activity_name(a.group.pw), korvezul_activity_name(a.group.ac),
+           korvezul_forwarding_name(a.group.forwarding));
+}
+
+/* Roles and ACs of every number but 0 are those of 1. */
+static void numbers_of_a_group(void) {
+    static const uint8_t values[] = {0, 1, 2, 255};
+    accepted_arguments();
+    for (size_t i = 0; i < sizeof values; i++) {
+        const struct korvezul_group *g = &lent.row[2].group;
+        memcpy(&lent, &kept, sizeof kept);
+        active.ac = values[i];
+        need(ac_it() == 0, "AC");
+        printf("AC of %d: %d; ", values[i], g->ac);
+        need(korvezul_close(LENT(KORVEZUL_RECORDS), korvezul_ours(100 + SERVICE), 5) == 0, "close");
+        setting.settings.role = values[i];
+        setting.settings.service = 100 + DNI;
+        setting.settings.dni = 100;
+        need(set_it() == 0, "set");
+        g = &lent.row[3].group;
+        printf("role of %d: %d, PW %d\n", values[i], g->role, g->pw);
+    }
+}
+
+/* What a DHC message does to a working PE and to a protection PE, and what return makes of it. */
+static void switchover(void) {
+    static const struct {
+        const char *name;
+        struct korvezul_dhc dhc;
+    } told_by[] = {{"PW Status with P and D", {.status = {.present = 1, .protection = 1, .degrade = 1}}},
+                   {"PW Status with F", {.status = {.present = 1, .fail = 1}}},
+                   {"Switching with P", {.switching = {.present = 1, .protection = 1}}},
+                   {"Switching with S", {.switching = {.present = 1, .switches = 1}}},
+                   {"F, and Switching without S", {.status = {.present = 1, .fail = 1}, .switching = {.present = 1}}},
+                   {"F, and Switching with S",
+                    {.status = {.present = 1, .fail = 1}, .switching = {.present = 1, .switches = 1}}}};
+    accepted_arguments();
+    for (size_t i = 0; i < sizeof told_by / sizeof *told_by; i++) {
+        printf("%s:\n", told_by[i].name);
+        memcpy(&lent, &kept, sizeof kept);
+        for (uint32_t party = KORVEZUL_OURS; party <= KORVEZUL_THEIRS; party++) {
+            const uint32_t first = party == KORVEZUL_OURS ? 100 : 500100;
+            struct korvezul_dhc d = told_by[i].dhc;
+            name.party = arrival.party = party;
+            name.id = d.id = first;
+            arrival.label = first + DNI;
+            d.status.source = d.status.present * PEER;
+            d.switching.source = d.switching.present * PEER;
+            need(korvezul_write_dhc_message(coordinating, sizeof coordinating, d) == 0, "DHC message");
+            coordinating_octets = 12u + 24u * d.status.present + 20u * d.switching.present;
+            printf("  %s:", korvezul_role_name(party));
+            print_told(name);
+            need(coordinate() == 0, "DHC message taken");
+            printf(";");
+            print_told(name);
+            need(give_back() == 0, "return");
+            printf("; returned");
+            print_told(name);
+            printf("\n");
+        }
+    }
+}
+
+/* Table 1 of RFC 8185, each row with the DNI-PW up and down, which a lock makes it. */
+static void table_1(void) {
+    for (int row_of = 0; row_of < 8; row_of++) {
+        accepted_arguments();
+        memcpy(&lent, &kept, sizeof kept);
+        active.ac = (row_of & 2) == 0;
+        coordinating[55] = row_of < 4 ? 0 : 2; /* S */
+        need(ac_it() == 0 && coordinate() == 0, "AC and DHC message");
+        if ((row_of & 1) != 0)
+            need(korvezul_lock(LENT(KORVEZUL_RECORDS), arrival, 5) == 0, "lock");
+        printf("DNI-PW %s:", (row_of & 1) == 0 ? "up" : "down");
+        print_told(name);
+        printf("\n");
+    }
+}
+
+/* A working PE's PW at the last reading without a loss of the service PW and at the first with it, by a tick; and
+ * behind a crossed CC on it. */
+static void ailing(void) {
+    static const uint64_t ticks[] = {3000000, 3000001};
+    uint8_t m[KORVEZUL_CC_OCTETS];
+    struct korvezul_packet crossed = {.my = 9, .your = 1, .state = KORVEZUL_UP, .multiplier = 3};
+    accepted_arguments();
+    for (size_t i = 0; i < 2; i++) {
+        memcpy(&lent, &kept, sizeof kept);
+        need(korvezul_tick(LENT(KORVEZUL_RECORDS), ticks[i]) == 0, "tick");
+        printf("tick to %" PRIu64 ":", ticks[i]);
+        print_told(name);
+        printf("\n");
+    }
+    memcpy(&lent, &kept, sizeof kept);
+    need(korvezul_write_cc_message(m, sizeof m, crossed) == 0, "crossed CC");
+    arrival.label = 100 + SERVICE;
+    need(korvezul_receive(LENT(KORVEZUL_RECORDS), arrival, m, sizeof m, 5) == 0, "crossed CC taken");
+    printf("crossed CC:");
+    print_told(name);
+    printf("\n");
+}
+
+static void groups(void) {
+    prepare();
+    need(korvezul_tick(kept.row, KORVEZUL_RECORDS, &kept.head, 5) == 0, "tick");
+    check_group();
+    group_refusals();
+    dhc_refusals();
+    numbers_of_a_group();
+    switchover();
+    table_1();
+    ailing();
+}
+
 static void headline(const char *text) { printf("-- %s\n", text); }
 
 int main(void) {
@@ -897,6 +1243,8 @@ int main(void) {
     dhc_octets();
     dhc_tlvs();
     dhc_numbers();
+    headline("dual-homing groups");
+    groups();
     headline("names");
     names();
     return 0;

@@ -3,7 +3,9 @@
  * The first 32 sessions are ours, the others theirs.
  * STATE is `usual` (labels in a row, sessions of LSPs, UP, no condition) or `worst` (labels that share
  * one mark of the scan, discriminators that share one in each party, sessions of pseudowires with the
- * longest AGI, four conditions standing and a crossing in each).
+ * longest AGI, four conditions standing and a crossing in each). For a call on a group, with 2 sessions or more, the
+ * last session is the service PW of one and the session before it the DNI-PW; in the worst state every session has a
+ * group.
  * Under valgrind the call alone is counted; without it the stack that it used is printed.
  */
 #define _DEFAULT_SOURCE
@@ -25,7 +27,7 @@ static unsigned last_place; /* every scan comes to it last */
 static struct korvezul_circuit last; /* its label, called by its party */
 static uint8_t cc[KORVEZUL_CC_OCTETS], cv[KORVEZUL_CV_OCTETS], ais[9 + 254], buffer[KORVEZUL_CV_OCTETS];
 static uint8_t coordination[KORVEZUL_DHC_OCTETS];
-static const struct korvezul_dhc dhc = {7, {1, 55, 2, 1, 0, 0, 1}, {1, 55, 2, 1, 1, 0}};
+static struct korvezul_dhc dhc = {7, {1, 55, 2, 1, 0, 0, 1}, {1, 55, 2, 1, 1, 0}};
 static uint8_t configuration[40];
 static size_t cv_octets; /* of the CV that is received */
 
@@ -58,6 +60,14 @@ static struct korvezul_opening opening_of(unsigned i) {
                                   10000000,      1,             1,           KORVEZUL_COORDINATED};
     struct korvezul_opening o = {s, circuit_of(i).party};
     return o;
+}
+
+static uint32_t id_of(unsigned i) { return 7 + i; }
+
+static struct korvezul_grouping grouping_of(unsigned i) {
+    struct korvezul_group_settings s = {id_of(i), 55, label_of(i), label_of(i ^ 1), KORVEZUL_WORKING};
+    struct korvezul_grouping g = {s, circuit_of(i).party};
+    return g;
 }
 
 static void receive(unsigned i, const uint8_t *m, size_t n) {
@@ -93,6 +103,13 @@ static void prepare(unsigned open) {
     last = circuit_of(last_place);
 }
 
+/* The groups; `but_last` leaves the last to be set. */
+static void prepare_groups(int but_last) {
+    for (unsigned i = worst ? 0 : last_place; i + (unsigned)but_last <= last_place; i++)
+        accepted(korvezul_set_group(row, KORVEZUL_RECORDS, &head, grouping_of(i), now));
+    dhc.id = id_of(last_place);
+}
+
 /* What is received: a CC, a CV, and the fault message with the most TLVs, all passed over; and what is read alone. */
 static void messages(void) {
     struct korvezul_packet p = {9, last.label, 1000000, 1000000, 0, 0, 3, 3, 1, 0, 0, 0};
@@ -124,6 +141,20 @@ static uint32_t unlock(void) { return korvezul_unlock(TABLE, last, now); }
 static uint32_t receive_cc(void) { return korvezul_receive(TABLE, last, cc, sizeof cc, now); }
 static uint32_t receive_cv(void) { return korvezul_receive(TABLE, last, cv, cv_octets, now); }
 static uint32_t receive_fault(void) { return korvezul_receive(TABLE, last, ais, sizeof ais, now); }
+static struct korvezul_group_name name_of_last(void) {
+    struct korvezul_group_name n = {last.party, id_of(last_place)};
+    return n;
+}
+static uint32_t set_group(void) { return korvezul_set_group(TABLE, grouping_of(last_place), now); }
+static uint32_t set_ac(void) {
+    struct korvezul_ac_of ac = {name_of_last(), KORVEZUL_ACTIVE};
+    return korvezul_set_ac(TABLE, ac, now);
+}
+static uint32_t return_group(void) { return korvezul_return_group(TABLE, name_of_last(), now); }
+static uint32_t ask_group(void) { return korvezul_ask_group(TABLE, name_of_last()).answer; }
+static uint32_t receive_dhc(void) {
+    return korvezul_receive(TABLE, circuit_of(last_place ^ 1), coordination, sizeof coordination, now);
+}
 static uint32_t report(void) { return korvezul_report(TABLE, last).answer; }
 static uint32_t why(void) { /* the last of four conditions; in the usual state none stands */
     struct korvezul_question q = {last, {1, 3, 0, 1, 1, 0}, KORVEZUL_A_CONDITION};
@@ -166,45 +197,59 @@ static uint32_t log_cc(void) {
     return korvezul_log_call(buffer, sizeof buffer, w, cc, sizeof cc);
 }
 
-static const struct {
+struct named {
     const char *name;
     uint32_t (*call)(void);
-} calls[] = {{"none", none},
-             {"empty", empty},
-             {"tick", tick},
-             {"open", open_one},
-             {"close", close_one},
-             {"lock", lock},
-             {"unlock", unlock},
-             {"receive-cc", receive_cc},
-             {"receive-cv", receive_cv},
-             {"receive-fault", receive_fault},
-             {"report", report},
-             {"why", why},
-             {"write-cc", cc_of_session},
-             {"write-cv", cv_of_session},
-             {"read-cc", read_cc},
-             {"read-cv", read_cv},
-             {"read-fault", read_fault},
-             {"read-mep-id", read_mep_id},
-             {"write-cc-message", cc_message},
-             {"write-cv-message", cv_message},
-             {"write-fault-message", fault_message},
-             {"read-dhc", read_dhc},
-             {"write-dhc-message", dhc_message},
-             {"read-configuration", read_configuration},
-             {"write-configuration", write_configuration},
-             {"log-header", log_header},
-             {"log-open", log_open},
-             {"log-tick", log_tick},
-             {"log-receive-cc", log_cc}};
+};
+
+static const struct named calls[] = {
+    {"none", none},
+    {"empty", empty},
+    {"tick", tick},
+    {"open", open_one},
+    {"close", close_one},
+    {"lock", lock},
+    {"unlock", unlock},
+    {"receive-cc", receive_cc},
+    {"receive-cv", receive_cv},
+    {"receive-fault", receive_fault},
+    {"report", report},
+    {"why", why},
+    {"write-cc", cc_of_session},
+    {"write-cv", cv_of_session},
+    {"read-cc", read_cc},
+    {"read-cv", read_cv},
+    {"read-fault", read_fault},
+    {"read-mep-id", read_mep_id},
+    {"write-cc-message", cc_message},
+    {"write-cv-message", cv_message},
+    {"write-fault-message", fault_message},
+    {"read-dhc", read_dhc},
+    {"write-dhc-message", dhc_message},
+    {"read-configuration", read_configuration},
+    {"write-configuration", write_configuration},
+    {"log-header", log_header},
+    {"log-open", log_open},
+    {"log-tick", log_tick},
+    {"log-receive-cc", log_cc}};
+
+/* These on a table that has groups. */
+static const struct named calls_with_groups[] = {{"set-group", set_group},       {"set-ac", set_ac},
+                                                 {"return-group", return_group}, {"ask-group", ask_group},
+                                                 {"receive-dhc", receive_dhc},   {"tick-with-groups", tick}};
 
 static uint32_t (*measured)(void);
+static int with_groups;
 
 static void choose(const char *name) {
     for (size_t i = 0; i < sizeof calls / sizeof *calls; i++)
         if (strcmp(name, calls[i].name) == 0)
             measured = calls[i].call;
+    for (size_t i = 0; i < sizeof calls_with_groups / sizeof *calls_with_groups; i++)
+        if (strcmp(name, calls_with_groups[i].name) == 0) {
+            measured = calls_with_groups[i].call;
+            with_groups = 1;
+        }
     if (measured == NULL)
         exit(2);
 }
@@ -243,6 +288,8 @@ int main(int argc, char **argv) {
     worst = strcmp(argv[3], "worst") == 0;
     /* an open that is accepted beside 63 */
     prepare(measured == open_one && open == KORVEZUL_RECORDS ? open - 1 : open);
+    if (with_groups)
+        prepare_groups(measured == set_group);
     messages();
     now = 1;
     if (RUNNING_ON_VALGRIND) {

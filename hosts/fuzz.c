@@ -3,8 +3,8 @@
  *
  *   fuzz play < CAPTURE          plays a capture by calls, and prints what `watch` would
  *   fuzz log < LOG > LOG         plays a log by calls, and writes it again with the answers that they get
- *   fuzz calls SEED N LIST       makes N random calls on a table of its own, in every mode, writes
- *                                them as a list, and prints what they answered
+ *   fuzz calls SEED N LIST       makes N random calls on a table of its own, in every mode and on
+ *                                groups, writes them as a list, and prints what they answered
  *   fuzz dhc SEED N LIST         reads and writes N random DHC messages in the same way
  *   fuzz random SEED SECONDS     any bytes as row, set, clock, message and buffer; what must hold
  *                                of every call is looked at after each
@@ -68,10 +68,28 @@ static void fill(void *at, size_t n) {
 
 /* ---- a call with its arguments, and what it said */
 
-enum kind { TICK, OPEN, CLOSE, LOCK, UNLOCK, RECEIVE, REPORT, WRITE_CC, WRITE_CV, EMPTY, KINDS };
+/* A capture has the first nine. */
+enum kind {
+    TICK,
+    OPEN,
+    CLOSE,
+    LOCK,
+    UNLOCK,
+    RECEIVE,
+    REPORT,
+    WRITE_CC,
+    WRITE_CV,
+    EMPTY,
+    SET_GROUP,
+    SET_AC,
+    RETURN_GROUP,
+    ASK_GROUP,
+    KINDS
+};
 
-static const char *const names[KINDS] = {"tick",    "open",   "close",    "lock",     "unlock",
-                                         "receive", "report", "write CC", "write CV", "empty"};
+static const char *const names[KINDS] = {"tick",   "open",     "close",    "lock",  "unlock",        "receive",
+                                         "report", "write CC", "write CV", "empty", "set a group",   "AC of a group",
+                                         "return", "ask of a group"};
 
 struct call {
     enum kind kind;
@@ -79,6 +97,8 @@ struct call {
     uint32_t label;
     uint32_t party; /* who calls */
     struct korvezul_settings settings;
+    struct korvezul_group_settings group; /* its service PW is the label */
+    uint8_t ac;
     uint8_t *octets; /* the message, or the buffer */
     size_t size;
 };
@@ -86,12 +106,17 @@ struct call {
 struct said {
     uint32_t answer;
     struct korvezul_report_answer report;
+    struct korvezul_group_report group;
 };
 
 static struct said make(struct korvezul_session *row, size_t n, struct korvezul_head *head,
                         const struct call *c) {
     const struct korvezul_circuit circuit = {c->label, c->party};
     const struct korvezul_opening opening = {c->settings, c->party};
+    const struct korvezul_grouping grouping = {c->group, c->party};
+    const struct korvezul_group_name group = {c->party, c->group.id};
+    const struct korvezul_ac_of ac = {group, c->ac};
+    struct korvezul_group_answer asked;
     struct said s;
     memset(&s, 0, sizeof s);
     switch (c->kind) {
@@ -107,6 +132,14 @@ static struct said make(struct korvezul_session *row, size_t n, struct korvezul_
         break;
     case WRITE_CC: s.answer = korvezul_write_cc(row, n, head, circuit, c->octets, c->size); break;
     case WRITE_CV: s.answer = korvezul_write_cv(row, n, head, circuit, c->octets, c->size); break;
+    case SET_GROUP: s.answer = korvezul_set_group(row, n, head, grouping, c->reading); break;
+    case SET_AC: s.answer = korvezul_set_ac(row, n, head, ac, c->reading); break;
+    case RETURN_GROUP: s.answer = korvezul_return_group(row, n, head, group, c->reading); break;
+    case ASK_GROUP:
+        asked = korvezul_ask_group(row, n, head, group);
+        s.answer = asked.answer;
+        s.group = asked.group;
+        break;
     default: s.answer = korvezul_empty(row, n, head); break;
     }
     return s;
@@ -118,8 +151,11 @@ static size_t cv_size(const struct korvezul_mep_id *id) {
 }
 
 /* Where a message that was received went wrong, which receive does not say: by the reader of its
- * channel. Of a header that is refused all three say the same. */
-static uint64_t place_of(const uint8_t *o, size_t n) {
+ * channel. Of a header that is refused all three say the same; what is too short is so at its end, a DHC
+ * message too, whose reader has no place. */
+static uint64_t place_of(uint32_t answer, const uint8_t *o, size_t n) {
+    if (answer == KORVEZUL_SHORT)
+        return n;
     if (n >= 4 && o[3] == 0x23)
         return korvezul_read_cv(o, n).place;
     if (n >= 4 && o[3] == 0x58)
@@ -131,10 +167,12 @@ static uint64_t place_of(const uint8_t *o, size_t n) {
 static void line(uint64_t number, const struct call *c, const struct said *s) {
     printf("%" PRIu64 " %" PRIu32, number, s->answer);
     if (c->kind == RECEIVE && s->answer >= KORVEZUL_SHORT && s->answer <= KORVEZUL_FAULT)
-        printf(" %" PRIu64, place_of(c->octets, c->size));
+        printf(" %" PRIu64, place_of(s->answer, c->octets, c->size));
     if (s->answer == 0 && c->kind == REPORT)
         printf(" %d %d %d %d %d %d %d", s->report.state, s->report.crossing, s->report.loss, s->report.alarm,
                s->report.rdi, s->report.blocked, s->report.conditions);
+    if (s->answer == 0 && c->kind == ASK_GROUP)
+        printf(" %d %d %d", s->group.pw, s->group.ac, s->group.forwarding);
     if (s->answer == 0 && (c->kind == WRITE_CC || c->kind == WRITE_CV)) {
         printf(" ");
         for (size_t i = 0; i < (c->kind == WRITE_CC ? KORVEZUL_CC_OCTETS : WATCH_CV); i++)
@@ -184,6 +222,7 @@ static struct korvezul_settings settings_of(uint32_t label, const uint8_t *body,
 /* The call of a record, of which these are the first 16 octets and the body. */
 static struct call call_of(const uint8_t *begin, const uint8_t *body, size_t size, const struct lender *lent) {
     struct call c;
+    memset(&c, 0, sizeof c);
     c.kind = (enum kind)number(begin + 12, 2);
     c.reading = number(begin, 8);
     c.label = (uint32_t)number(begin + 8, 4);
@@ -371,16 +410,56 @@ static struct korvezul_fault some_fault(void) {
     return f;
 }
 
+/* The ID that the group of a label mostly has; both parties give out the same. */
+static uint32_t some_id(uint32_t label) {
+    return once_in(40) ? (uint32_t)any() : once_in(10) ? (uint32_t)below(64) : usual_discriminator(label) % 64;
+}
+
+/* A group for a label, whose neighbour is mostly its DNI-PW; and what a peer coordinates on that neighbour. */
+static struct korvezul_group_settings some_group(uint32_t label) {
+    struct korvezul_group_settings g;
+    memset(&g, 0, sizeof g);
+    g.id = some_id(label);
+    g.peer = 55 + (uint32_t)once_in(6);
+    g.service = label;
+    g.dni = once_in(10) ? some_label() : once_in(4) ? label : label ^ 1;
+    g.role = (uint8_t)below(once_in(10) ? 256 : 2);
+    return g;
+}
+
+static struct korvezul_dhc some_coordination(uint32_t label) {
+    struct korvezul_dhc d;
+    memset(&d, 0, sizeof d);
+    d.id = some_id(label ^ 1);
+    d.status.present = (uint8_t)below(2);
+    d.switching.present = (uint8_t)(d.status.present == 0 ? 1 : below(2));
+    if (d.status.present != 0) {
+        d.status.source = 55 + (uint32_t)once_in(6);
+        d.status.protection = (uint8_t)below(2);
+        d.status.degrade = (uint8_t)below(2);
+        d.status.fail = (uint8_t)below(2);
+    }
+    if (d.switching.present != 0) {
+        d.switching.source = 55 + (uint32_t)once_in(6);
+        d.switching.switches = (uint8_t)below(2);
+        d.switching.protection = (uint8_t)below(2);
+    }
+    return d;
+}
+
 /* A plain message for a label: most of them, where there is a choice, as its peer would send it. */
 static size_t plain_message(uint8_t *o, uint32_t label) {
     struct korvezul_packet p = some_packet();
     struct korvezul_mep_id id = some_mep((uint16_t)below(3));
     if (!once_in(8))
         p.your = usual_discriminator(label);
-    switch (below(6)) {
+    switch (below(8)) {
     case 0: return korvezul_write_cv_message(o, 128, p, id) == 0 ? cv_size(&id) : 0;
     case 1:
     case 2: return korvezul_write_fault_message(o, 128, some_fault()) == 0 ? 9 + o[8] : 0;
+    case 3:
+    case 4:
+        return korvezul_write_dhc_message(o, 128, some_coordination(label)) == 0 ? 12 + (size_t)number(o + 8, 2) : 0;
     default: return korvezul_write_cc_message(o, 128, p) == 0 ? 28 : 0;
     }
 }
@@ -405,8 +484,9 @@ static size_t some_message(uint8_t *o, uint32_t label) {
 /* A call on a table, its octets lent; a buffer of any size, or of one that `watch` lends. Now and
  * then nothing is closed for a while, so that the table fills up. */
 static struct call some_call(const struct korvezul_head *head, const struct lender *lent, int as_watch) {
-    static const enum kind often[] = {TICK,    OPEN,    OPEN,    CLOSE,   LOCK,   UNLOCK, UNLOCK,   RECEIVE,
-                                      RECEIVE, RECEIVE, RECEIVE, RECEIVE, REPORT, REPORT, WRITE_CC, WRITE_CV};
+    static const enum kind often[] = {TICK,     OPEN,     OPEN,      CLOSE,   LOCK,         UNLOCK,    UNLOCK,  RECEIVE,
+                                      RECEIVE,  RECEIVE,  RECEIVE,   RECEIVE, RECEIVE,      RECEIVE,   REPORT,  REPORT,
+                                      WRITE_CC, WRITE_CV, SET_GROUP, SET_AC,  RETURN_GROUP, ASK_GROUP, ASK_GROUP};
     static int filling;
     uint8_t m[128];
     struct call c;
@@ -420,6 +500,8 @@ static struct call some_call(const struct korvezul_head *head, const struct lend
     c.party = some_party(c.label);
     c.reading = some_reading(head->clock);
     c.settings = some_settings(c.label, as_watch);
+    c.group = some_group(c.label);
+    c.ac = (uint8_t)below(once_in(10) ? 256 : 2);
     if (c.kind == RECEIVE) {
         c.size = some_message(m, c.label);
         c.octets = lend(lent, c.size, as_watch || once_in(2));
@@ -442,6 +524,19 @@ static size_t open_body(uint8_t *o, const struct korvezul_settings *s) {
     return (size_t)(end - o);
 }
 
+/* A call on a group as a line of a list: the first names the service PW, the last brings no reading. */
+static void listed_on_group(FILE *to, const struct call *c) {
+    static const char *const kinds[] = {"group", "ac", "return", "ask"};
+    const struct korvezul_group_settings *g = &c->group;
+    fprintf(to, "%" PRIu64 " %" PRIu32 " %s party=%" PRIu32 " id=%" PRIu32, c->kind == ASK_GROUP ? 0 : c->reading,
+            c->kind == SET_GROUP ? g->service : 0, kinds[c->kind - SET_GROUP], c->party, g->id);
+    if (c->kind == SET_GROUP)
+        fprintf(to, " role=%d peer=%" PRIu32 " dni=%" PRIu32, g->role, g->peer, g->dni);
+    if (c->kind == SET_AC)
+        fprintf(to, " ac=%d", c->ac);
+    fprintf(to, "\n");
+}
+
 /* A call as a line of a list: a capture has no place for a mode, nor for the party. */
 static void listed(FILE *to, const struct call *c) {
     static const char *const kinds[] = {"tick",    "open",   "close",    "lock",    "unlock",
@@ -449,6 +544,10 @@ static void listed(FILE *to, const struct call *c) {
     uint8_t opening[35];
     const uint8_t *body = c->kind == OPEN ? opening : c->octets;
     size_t size = c->kind == OPEN ? open_body(opening, &c->settings) : c->kind == RECEIVE ? c->size : 0;
+    if (c->kind >= SET_GROUP) {
+        listed_on_group(to, c);
+        return;
+    }
     fprintf(to, "%" PRIu64 " %" PRIu32 " %s", c->reading, c->label, kinds[c->kind]);
     if (c->kind == OPEN)
         fprintf(to, " mode=%d", c->settings.mode);
@@ -502,7 +601,8 @@ static int ones(uint64_t x) {
 /* The answers that a call can give, beside 0 and 26. */
 static int may_answer(enum kind kind, uint32_t answer) {
     static const char *const sets[KINDS] = {
-        "\1", "\1\12\13\14", "\1\2", "\1\2", "\1\2", "\1\2\3\4\5\6\7\10\11\16", "\2", "\2\15", "\2\15", ""};
+        "\1", "\1\12\13\14", "\1\2", "\1\2", "\1\2", "\1\2\3\4\5\6\7\10\11\16\30\31", "\2", "\2\15", "\2\15",
+        "",   "\1\2\12\13", "\1\30", "\1\30", "\30"};
     return answer == 0 || answer == 26 || (answer < 26 && strchr(sets[kind], (int)answer) != NULL);
 }
 
@@ -512,12 +612,17 @@ struct table {
     uint8_t octets[128];
 };
 
-/* The settings of the open session of a label. */
-static const struct korvezul_settings *settings_at(const struct table *t, uint32_t label) {
+/* The record of the open session of a label, and its settings. */
+static const struct korvezul_session *session_at(const struct table *t, uint32_t label) {
     for (size_t i = 0; i < KORVEZUL_RECORDS; i++)
         if ((t->head.occupied >> i & 1) != 0 && t->row[i].settings.label == label)
-            return &t->row[i].settings;
+            return &t->row[i];
     return NULL;
+}
+
+static const struct korvezul_settings *settings_at(const struct table *t, uint32_t label) {
+    const struct korvezul_session *s = session_at(t, label);
+    return s == NULL ? NULL : &s->settings;
 }
 
 /* The octets that an accepted call wrote. */
@@ -544,6 +649,42 @@ static void look_at_mode(const struct table *before, const struct table *after, 
     }
 }
 
+/* Whose labels and groups a call may see. */
+static void look_at_party(const struct call *c, const struct said *s) {
+    if (c->kind == TICK || c->kind == EMPTY || s->answer == 26 || s->answer == 1)
+        return;
+    if (c->kind > SET_GROUP)
+        must(c->party <= KORVEZUL_THEIRS || s->answer == 24, "nobody has a group");
+    else if (c->party != korvezul_party_of(c->label))
+        must(s->answer == (c->kind == OPEN ? 10 : 2), "a label of another party is seen");
+}
+
+/* What asking tells, each number in its place and by Table 1; what setting and AC leave in a record; and that a DHC
+ * message leaves the session of its own label. */
+static void look_at_group(const struct table *before, const struct table *after, const struct call *c,
+                          const struct said *s) {
+    static const uint8_t most[] = {KORVEZUL_DROPS, KORVEZUL_DNI_WITH_AC, KORVEZUL_PW_WITH_DNI, KORVEZUL_PW_WITH_AC};
+    const struct korvezul_session *own = session_at(before, c->label);
+    const struct korvezul_group_report *r = &s->group;
+    if (c->kind == ASK_GROUP && s->answer != 0)
+        must((r->pw | r->ac | r->forwarding) == 0, "a group that is not there tells something");
+    if (s->answer != 0)
+        return;
+    if (c->kind == ASK_GROUP) {
+        must((r->pw | r->ac) <= 1, "a PW or AC is neither active nor standby");
+        must(r->forwarding == most[2 * r->pw + r->ac] || (r->forwarding == 0 && r->pw != r->ac),
+             "what is forwarded is not in Table 1");
+    }
+    if (c->kind == SET_GROUP) {
+        const struct korvezul_group *g = &session_at(after, c->label)->group;
+        must(own->group.set == 0 && g->set == 1 && g->id == c->group.id && g->peer == c->group.peer &&
+                 g->dni == c->group.dni && g->role == (c->group.role != 0) && g->ac == 0 && (g->role & g->pw) == 0,
+             "a group is set otherwise");
+    }
+    if (c->kind == RECEIVE && c->size >= 4 && number(c->octets + 2, 2) == 9)
+        must(memcmp(own, &after->row[own - before->row], sizeof *own) == 0, "a DHC message changes its own label");
+}
+
 static void look(const struct table *before, const struct table *after, size_t n, const struct call *c,
                  const struct said *s) {
     int changed = 0;
@@ -551,22 +692,20 @@ static void look(const struct table *before, const struct table *after, size_t n
     static const uint8_t noughts[7];
     must(may_answer(c->kind, s->answer), "an answer that this call does not give");
     must(n == KORVEZUL_RECORDS || s->answer == 26, "a row of another length is taken");
-    if (c->kind != TICK && c->kind != EMPTY && c->party != korvezul_party_of(c->label))
-        must(s->answer == 26 || s->answer == 1 || s->answer == (c->kind == OPEN ? 10 : 2),
-             "a label of another party is seen");
+    look_at_party(c, s);
     for (size_t i = 0; i < n; i++)
         changed += memcmp(&before->row[i], &after->row[i], sizeof before->row[i]) != 0;
-    if (s->answer != 0 || c->kind == REPORT)
+    if (s->answer != 0 || c->kind == REPORT || c->kind == ASK_GROUP)
         must(changed == 0 && memcmp(&before->head, &after->head, sizeof before->head) == 0 &&
                  memcmp(before->octets, after->octets, c->size) == 0,
-             "a refusal or a report changes a byte");
+             "a refusal, a report or asking changes a byte");
     if (s->answer != 0 && c->kind == REPORT)
         must(memcmp(&s->report.state, noughts, sizeof noughts) == 0, "a refused report shows something");
     must(changed <= 1, "more than one record changes");
     must(ones(before->head.occupied ^ after->head.occupied) <= (c->kind == OPEN || c->kind == CLOSE) ||
              c->kind == EMPTY,
          "the set of places changes");
-    if (s->answer == 0 && c->kind <= RECEIVE)
+    if (s->answer == 0 && (c->kind <= RECEIVE || (c->kind >= SET_GROUP && c->kind != ASK_GROUP)))
         must(after->head.clock == c->reading, "the clock is not the reading");
     must(kept <= c->size, "more is written than there is room for");
     must(memcmp(before->octets + kept, after->octets + kept, c->size - kept) == 0,
@@ -578,6 +717,7 @@ static void look(const struct table *before, const struct table *after, size_t n
              "what is written is not read");
     }
     look_at_mode(before, after, c, s);
+    look_at_group(before, after, c, s);
 }
 
 static int is_nought(const void *at, size_t n) {
@@ -1168,7 +1308,8 @@ static uint32_t tried(struct korvezul_session *row, size_t n, struct korvezul_he
     *head = before.head;
     memcpy(c->octets, before.octets, c->size);
     twice = make(row, n, head, c);
-    must(s.answer == twice.answer && memcmp(&s.report.state, &twice.report.state, 7) == 0,
+    must(s.answer == twice.answer && memcmp(&s.report.state, &twice.report.state, 7) == 0 &&
+             memcmp(&s.group, &twice.group, sizeof s.group) == 0,
          "the same call answers otherwise");
     must(memcmp(row, after.row, size) == 0 && memcmp(head, &after.head, sizeof *head) == 0 &&
              memcmp(c->octets, after.octets, c->size) == 0,

@@ -4,8 +4,8 @@
 use std::mem::{align_of, offset_of, size_of};
 
 pub const RECORDS: usize = 64;
-/// The version of the header that these declarations follow, 7.0.0.
-pub const VERSION: u32 = 0x070000;
+/// The version of the header that these declarations follow, 7.1.0.
+pub const VERSION: u32 = 0x070100;
 /// The two operators of a row, how many sessions each may have open, and the first label that is theirs.
 pub const OURS: u32 = 0;
 pub const THEIRS: u32 = 1;
@@ -15,6 +15,17 @@ pub const FIRST_OF_THEIRS: u32 = 500_000;
 pub const COORDINATED: u8 = 0;
 pub const SOURCE: u8 = 1;
 pub const SINK: u8 = 2;
+/// The roles of a PE in a dual-homing group.
+pub const WORKING: u8 = 0;
+pub const PROTECTION: u8 = 1;
+/// What a service PW or an AC is.
+pub const STANDBY: u8 = 0;
+pub const ACTIVE: u8 = 1;
+/// What a PE forwards.
+pub const DROPS: u8 = 0;
+pub const PW_WITH_AC: u8 = 1;
+pub const PW_WITH_DNI: u8 = 2;
+pub const DNI_WITH_AC: u8 = 3;
 /// The longest plain CV.
 pub const CV_OCTETS: usize = 78;
 /// The longest plain DHC message.
@@ -76,13 +87,56 @@ pub struct Opening {
     pub party: u32,
 }
 
-/// What we call with: our label, our session to open.
+/// What a dual-homing group is set with; every role but 0 is protection.
+#[repr(C)]
+#[derive(Clone, Copy, Debug, Default, PartialEq)]
+pub struct GroupSettings {
+    pub id: u32,
+    pub peer: u32,
+    pub service: u32,
+    pub dni: u32,
+    pub role: u8,
+}
+
+/// The same, and the party that sets it.
+#[repr(C)]
+#[derive(Clone, Copy, Debug, Default, PartialEq)]
+pub struct Grouping {
+    pub settings: GroupSettings,
+    pub party: u32,
+}
+
+/// The group of an ID, and the party that calls.
+#[repr(C)]
+#[derive(Clone, Copy, Debug, Default, PartialEq)]
+pub struct GroupName {
+    pub party: u32,
+    pub id: u32,
+}
+
+/// A group, and what its AC is to be; every number but 0 is active.
+#[repr(C)]
+#[derive(Clone, Copy, Debug, Default, PartialEq)]
+pub struct AcOf {
+    pub group: GroupName,
+    pub ac: u8,
+}
+
+/// What we call with: our label, our session to open, our group and the one that we set.
 pub fn ours(label: u32) -> Circuit {
     Circuit { label, party: OURS }
 }
 
 pub fn opened_by_us(settings: Settings) -> Opening {
     Opening { settings, party: OURS }
+}
+
+pub fn our_group(id: u32) -> GroupName {
+    GroupName { party: OURS, id }
+}
+
+pub fn grouped_by_us(settings: GroupSettings) -> Grouping {
+    Grouping { settings, party: OURS }
 }
 
 /// What the second operator calls with.
@@ -92,6 +146,14 @@ pub fn theirs(label: u32) -> Circuit {
 
 pub fn opened_by_them(settings: Settings) -> Opening {
     Opening { settings, party: THEIRS }
+}
+
+pub fn their_group(id: u32) -> GroupName {
+    GroupName { party: THEIRS, id }
+}
+
+pub fn grouped_by_them(settings: GroupSettings) -> Grouping {
+    Grouping { settings, party: THEIRS }
 }
 
 /// Whose label it is, for a host that serves both.
@@ -176,6 +238,23 @@ pub struct ReportAnswer {
     pub rdi: u8,
     pub blocked: u8,
     pub conditions: u8,
+}
+
+/// What a group tells: PW, AC, and what is forwarded.
+#[repr(C)]
+#[derive(Clone, Copy, Debug, Default, PartialEq)]
+pub struct GroupReport {
+    pub pw: u8,
+    pub ac: u8,
+    pub forwarding: u8,
+}
+
+/// 0 and the three, or a refusal and three noughts.
+#[repr(C)]
+#[derive(Clone, Copy, Debug, Default, PartialEq)]
+pub struct GroupAnswer {
+    pub answer: u32,
+    pub group: GroupReport,
 }
 
 /// What is asked about: 1 a crossing, 2 a loss, 3 an alarm held back, 4 the condition of the key.
@@ -339,6 +418,15 @@ const _: () = {
     assert!(offset_of!(Logged, kind) == 12 && offset_of!(Logged, answer) == 14);
     assert!(size_of::<Circuit>() == 8 && align_of::<Circuit>() == 4 && offset_of!(Circuit, party) == 4);
     assert!(size_of::<Opening>() == 120 && align_of::<Opening>() == 8 && offset_of!(Opening, party) == 112);
+    assert!(size_of::<GroupSettings>() == 20 && align_of::<GroupSettings>() == 4 && offset_of!(GroupSettings, id) == 0);
+    assert!(offset_of!(GroupSettings, peer) == 4 && offset_of!(GroupSettings, service) == 8);
+    assert!(offset_of!(GroupSettings, dni) == 12 && offset_of!(GroupSettings, role) == 16);
+    assert!(size_of::<Grouping>() == 24 && align_of::<Grouping>() == 4 && offset_of!(Grouping, party) == 20);
+    assert!(size_of::<GroupName>() == 8 && align_of::<GroupName>() == 4 && offset_of!(GroupName, id) == 4);
+    assert!(size_of::<AcOf>() == 12 && align_of::<AcOf>() == 4 && offset_of!(AcOf, ac) == 8);
+    assert!(size_of::<GroupReport>() == 3 && align_of::<GroupReport>() == 1 && offset_of!(GroupReport, pw) == 0);
+    assert!(offset_of!(GroupReport, ac) == 1 && offset_of!(GroupReport, forwarding) == 2);
+    assert!(size_of::<GroupAnswer>() == 8 && align_of::<GroupAnswer>() == 4 && offset_of!(GroupAnswer, group) == 4);
     assert!(size_of::<Question>() == 28 && offset_of!(Question, key) == 8 && offset_of!(Question, thing) == 24);
     assert!(size_of::<Cause>() == 48 && offset_of!(Cause, reading) == 16 && offset_of!(Cause, answer) == 40);
 };
@@ -360,6 +448,16 @@ extern "C" {
         reading: u64,
     ) -> u32;
     pub fn korvezul_tick(row: *mut Session, records: usize, head: *mut Head, reading: u64) -> u32;
+    pub fn korvezul_set_group(row: *mut Session, records: usize, head: *mut Head, group: Grouping, reading: u64) -> u32;
+    pub fn korvezul_set_ac(row: *mut Session, records: usize, head: *mut Head, ac: AcOf, reading: u64) -> u32;
+    pub fn korvezul_return_group(
+        row: *mut Session,
+        records: usize,
+        head: *mut Head,
+        group: GroupName,
+        reading: u64,
+    ) -> u32;
+    pub fn korvezul_ask_group(row: *mut Session, records: usize, head: *mut Head, group: GroupName) -> GroupAnswer;
     pub fn korvezul_report(row: *mut Session, records: usize, head: *mut Head, circuit: Circuit) -> ReportAnswer;
     pub fn korvezul_why(row: *mut Session, records: usize, head: *mut Head, question: Question) -> Cause;
     pub fn korvezul_write_cc(
@@ -437,6 +535,18 @@ impl Table {
     pub fn tick(&mut self, reading: u64) -> u32 {
         unsafe { korvezul_tick(self.row.as_mut_ptr(), RECORDS, &mut self.head, reading) }
     }
+    pub fn set_group(&mut self, group: Grouping, reading: u64) -> u32 {
+        unsafe { korvezul_set_group(self.row.as_mut_ptr(), RECORDS, &mut self.head, group, reading) }
+    }
+    pub fn set_ac(&mut self, ac: AcOf, reading: u64) -> u32 {
+        unsafe { korvezul_set_ac(self.row.as_mut_ptr(), RECORDS, &mut self.head, ac, reading) }
+    }
+    pub fn return_group(&mut self, group: GroupName, reading: u64) -> u32 {
+        unsafe { korvezul_return_group(self.row.as_mut_ptr(), RECORDS, &mut self.head, group, reading) }
+    }
+    pub fn ask_group(&mut self, group: GroupName) -> GroupAnswer {
+        unsafe { korvezul_ask_group(self.row.as_mut_ptr(), RECORDS, &mut self.head, group) }
+    }
     pub fn report(&mut self, circuit: Circuit) -> ReportAnswer {
         unsafe { korvezul_report(self.row.as_mut_ptr(), RECORDS, &mut self.head, circuit) }
     }
@@ -481,7 +591,7 @@ pub fn read_fault(message: &[u8]) -> FaultRead {
     unsafe { korvezul_read_fault(message.as_ptr(), message.len()) }
 }
 
-/// A message of dual-homing coordination. No call sets a group yet, so a table answers it 24 at best.
+/// A message of dual-homing coordination, without a table; `Table::receive` hands one to its group.
 pub fn read_dhc(message: &[u8]) -> DhcRead {
     unsafe { korvezul_read_dhc(message.as_ptr(), message.len()) }
 }
@@ -545,7 +655,7 @@ pub fn answer_name(answer: u32) -> &'static str {
         8 => "fault message wrong",
         9 => "four conditions stand",
         10 => "out of range",
-        11 => "label or discriminator taken",
+        11 => "label, discriminator or group taken",
         12 => "all sessions of the party open",
         13 => "buffer too short",
         14 => "session locked",
@@ -553,7 +663,7 @@ pub fn answer_name(answer: u32) -> &'static str {
         16 => "entry past its holder's end",
         17 => "entry of a wrong length",
         18 => "needed entry missing or twice",
-        24 => "no group takes the DHC message",
+        24 => "no such group",
         25 => "DHC message wrong",
         26 => "not a table",
         _ => "unknown",
@@ -573,6 +683,32 @@ pub fn mode_name(mode: u8) -> &'static str {
         COORDINATED => "coordinated",
         SOURCE => "source",
         SINK => "sink",
+        _ => "unknown",
+    }
+}
+
+pub fn role_name(role: u8) -> &'static str {
+    match role {
+        WORKING => "working",
+        PROTECTION => "protection",
+        _ => "unknown",
+    }
+}
+
+pub fn activity_name(activity: u8) -> &'static str {
+    match activity {
+        STANDBY => "standby",
+        ACTIVE => "active",
+        _ => "unknown",
+    }
+}
+
+pub fn forwarding_name(forwarding: u8) -> &'static str {
+    match forwarding {
+        DROPS => "drops all",
+        PW_WITH_AC => "service PW with AC",
+        PW_WITH_DNI => "service PW with DNI-PW",
+        DNI_WITH_AC => "DNI-PW with AC",
         _ => "unknown",
     }
 }

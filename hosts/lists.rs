@@ -3,6 +3,10 @@
 //! line has no words to be read but these, and one without words is passed over.
 //!
 //! TIME LABEL KIND [mode=NUMBER] [party=NUMBER] hex [OCTETS] => ANSWER
+//! TIME SERVICE group party=NUMBER id=NUMBER role=NUMBER peer=NUMBER dni=NUMBER => ANSWER
+//! TIME 0 ac party=NUMBER id=NUMBER ac=NUMBER => ANSWER
+//! TIME 0 return party=NUMBER id=NUMBER => ANSWER
+//! 0 0 ask party=NUMBER id=NUMBER => ANSWER
 //! spoil PLACE FIELD VALUE
 mod korvezul;
 
@@ -46,6 +50,36 @@ fn call_of(words: &str) -> Result<Call<'_>, String> {
     Ok(call)
 }
 
+/// A call on a group: what stands in front of its numbers, and these by their names.
+struct OnGroup<'a> {
+    time: u64,
+    service: u32,
+    kind: &'a str,
+    numbers: Vec<(&'a str, &'a str)>,
+}
+
+fn group_call_of<'a>(words: &'a str) -> Result<OnGroup<'a>, String> {
+    let mut words = words.split_whitespace();
+    let mut word = || words.next().ok_or("a word is missing");
+    let (time, service, kind) = (number(word()?)?, number(word()?)?, word()?);
+    let named = |word: &'a str| word.split_once('=').ok_or_else(|| format!("no such word: {word}"));
+    Ok(OnGroup { time, service, kind, numbers: words.map(named).collect::<Result<_, _>>()? })
+}
+
+impl OnGroup<'_> {
+    fn number<N: std::str::FromStr>(&self, name: &str) -> Result<N, String> {
+        let found = self.numbers.iter().find(|(other, _)| *other == name);
+        found.map_or_else(|| Err(format!("no {name}=")), |(_, value)| number(value))
+    }
+    fn name(&self) -> Result<GroupName, String> {
+        Ok(GroupName { party: self.number("party")?, id: self.number("id")? })
+    }
+    fn settings(&self) -> Result<GroupSettings, String> {
+        let (id, peer, dni) = (self.number("id")?, self.number("peer")?, self.number("dni")?);
+        Ok(GroupSettings { id, peer, service: self.service, dni, role: self.number("role")? })
+    }
+}
+
 fn number_at(octets: &[u8]) -> u32 {
     octets.iter().fold(0, |number, octet| number << 8 | u32::from(*octet))
 }
@@ -76,14 +110,15 @@ fn settings_of(call: &Call) -> Settings {
 }
 
 /// Receive answers without a place: the reader of the message's channel has it, and where the header is refused all
-/// three say the same.
+/// three say the same. That of DHC messages has none; what is too short is so at its end, of whatever channel.
 fn received(t: &mut Table, call: &Call) -> String {
     let answer = t.receive(call.circuit, &call.body, call.time);
-    let place = match call.body.get(3) {
-        _ if !(3..=8).contains(&answer) => return answer.to_string(),
-        Some(0x23) => read_cv(&call.body).place,
-        Some(0x58) => read_fault(&call.body).place,
-        _ => read_cc(&call.body).place,
+    let place = match (answer, call.body.get(3)) {
+        (3, _) => call.body.len() as u64,
+        (4..=8, Some(0x23)) => read_cv(&call.body).place,
+        (4..=8, Some(0x58)) => read_fault(&call.body).place,
+        (4..=8, _) => read_cc(&call.body).place,
+        _ => return answer.to_string(),
     };
     format!("{answer} {place}")
 }
@@ -93,6 +128,16 @@ fn reported(t: &mut Table, circuit: Circuit) -> String {
     match r.answer {
         0 => format!("0 {} {} {} {} {} {} {}", r.state, r.crossing, r.loss, r.alarm, r.rdi, r.blocked, r.conditions),
         answer => answer.to_string(),
+    }
+}
+
+/// What a group tells; beside a refusal it must tell nothing.
+fn asked(t: &mut Table, name: GroupName) -> Result<String, String> {
+    let GroupAnswer { answer, group } = t.ask_group(name);
+    match answer {
+        0 => Ok(format!("0 {} {} {}", group.pw, group.ac, group.forwarding)),
+        _ if group != GroupReport::default() => Err(format!("refused with {answer}, and the group tells something")),
+        _ => Ok(answer.to_string()),
     }
 }
 
@@ -108,9 +153,22 @@ fn written(write: impl FnOnce(&mut [u8]) -> u32, size: impl FnOnce(&[u8]) -> u64
     Ok(format!("{answer} {hex}").trim_end().to_string())
 }
 
-/// What a call is answered. A refused one and a report leave row and head as they were.
+/// What a call on a group is answered.
+fn answered_of_group(t: &mut Table, call: &OnGroup) -> Result<String, String> {
+    match call.kind {
+        "group" => {
+            let group = Grouping { settings: call.settings()?, party: call.number("party")? };
+            Ok(t.set_group(group, call.time).to_string())
+        }
+        "ac" => Ok(t.set_ac(AcOf { group: call.name()?, ac: call.number("ac")? }, call.time).to_string()),
+        "return" => Ok(t.return_group(call.name()?, call.time).to_string()),
+        "ask" => asked(t, call.name()?),
+        kind => Err(format!("no such call on a group: {kind}")),
+    }
+}
+
+/// What any other call is answered.
 fn answered(t: &mut Table, call: &Call) -> Result<String, String> {
-    let before = t.clone();
     let (circuit, time) = (call.circuit, call.time);
     let answer = match call.kind {
         "tick" => t.tick(time).to_string(),
@@ -124,8 +182,21 @@ fn answered(t: &mut Table, call: &Call) -> Result<String, String> {
         "write-cv" => written(|b| t.write_cv(circuit, b), |b| read_cv(b).place)?,
         kind => return Err(format!("no such call: {kind}")),
     };
+    Ok(answer)
+}
+
+/// What a line is answered. A refused call, a report and asking of a group leave row and head as they were.
+fn said(t: &mut Table, words: &str) -> Result<String, String> {
+    let before = t.clone();
+    let (kind, answer) = if words.contains(" hex") {
+        let call = call_of(words)?;
+        (call.kind, answered(t, &call)?)
+    } else {
+        let call = group_call_of(words)?;
+        (call.kind, answered_of_group(t, &call)?)
+    };
     let refused = !answer.starts_with("0");
-    if (refused || call.kind == "report") && *t != before {
+    if (refused || kind == "report" || kind == "ask") && *t != before {
         return Err(format!("answered {answer}, and the table has changed"));
     }
     Ok(answer)
@@ -165,7 +236,7 @@ fn played(t: &mut Table, line: &str) -> Result<(), String> {
         return spoil(t, words);
     }
     let (words, expected) = line.split_once(" => ").ok_or("no answer is named")?;
-    let answer = answered(t, &call_of(words)?)?;
+    let answer = said(t, words)?;
     if answer != expected {
         return Err(format!("expected {expected}, answered {answer}"));
     }

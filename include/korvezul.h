@@ -1,6 +1,6 @@
 /*
- * Korvezul: MPLS-TP connectivity monitoring (BFD CC and CV, AIS, LKR) for a line card, and the message of
- * dual-homing coordination (DHC), read and written.
+ * Korvezul: MPLS-TP connectivity monitoring (BFD CC and CV, AIS, LKR) for a line card, and the switchover of
+ * dual-homed pseudowires by groups and their coordination messages (DHC).
  *
  * C99; also C++. Link libkorvezul.a, which needs memcpy and memset and nothing else.
  *
@@ -13,14 +13,15 @@
  *
  * Parties. Two operators may have their sessions in one row, 32 each: labels below 500,000 are ours,
  * party 0, all others theirs, party 1. Every call but a tick, and making a row empty, names the party that
- * calls. A label of the other party is not open to it (2, and 10 on open), and from an empty row on what it
- * is answered, reported and written hangs on nothing that the other does, but on the clock. A host of one
- * operator writes korvezul_ours(label) where a call has a circuit, and korvezul_opened_by_us(settings) to
- * open.
+ * calls. A label of the other party is not open to it (2, and 10 on open), nor does it see the other's groups
+ * (24), and from an empty row on what it is answered, reported, told and written hangs on nothing that the other
+ * does, but on the clock. A host of one operator writes korvezul_ours(label) where a call has a circuit,
+ * korvezul_our_group(id) where it names a group, and korvezul_opened_by_us(settings) and
+ * korvezul_grouped_by_us(settings) to open and to set one.
  *
  * Time. A reading is the host's clock in microseconds. It may not run backwards (answer 1) and is
- * at most 9,223,372,036,854,775,807. Report, why and write speak at the reading of the last accepted
- * call that brought one: tick first to have them speak of now.
+ * at most 9,223,372,036,854,775,807. Report, why, write and asking of a group speak at the reading of the last
+ * accepted call that brought one: tick first to have them speak of now.
  *
  * Answers. 0 is accepted. Anything else is a refusal, and then no byte of row, head or buffer has
  * changed. Every call on a table is answered KORVEZUL_TABLE, before anything else, if what was
@@ -37,13 +38,14 @@
 extern "C" {
 #endif
 
-/* The version of this header: 0x070000 is 7.0.0. korvezul_version() is the archive's; another major
+/* The version of this header: 0x070100 is 7.1.0. korvezul_version() is the archive's; another major
  * number is another layout or another meaning, and the two must agree in it. 5: the settings have a mode,
  * in an octet that was nobody's before; 5.1: configurations are read and written; 5.2: records of a log
  * are written; 6: every call but a tick names its party, and a party has 32 sessions; DHC messages are read
- * and written; 7: a record has room for a dual-homing group, and a DHC message that is received is no 5. */
+ * and written; 7: a record has room for a dual-homing group, and a DHC message that is received is no 5; 7.1:
+ * groups are set, returned and asked of, and a DHC message that is received reaches its group. */
 #define KORVEZUL_VERSION_MAJOR 7
-#define KORVEZUL_VERSION_MINOR 0
+#define KORVEZUL_VERSION_MINOR 1
 #define KORVEZUL_VERSION_PATCH 0
 #define KORVEZUL_VERSION \
     (KORVEZUL_VERSION_MAJOR * 0x10000 + KORVEZUL_VERSION_MINOR * 0x100 + KORVEZUL_VERSION_PATCH)
@@ -80,8 +82,9 @@ enum korvezul_answer {
     KORVEZUL_FAULT = 8,       /* a field or a TLV of a fault message is wrong */
     KORVEZUL_CONDITIONS = 9,  /* a new condition, and four already stand */
     KORVEZUL_RANGE = 10,      /* a setting or a field to write is out of range, or would not be read; the label
-                                 to be opened is not the caller's */
-    KORVEZUL_TAKEN = 11,      /* the label is already open, or the local discriminator in the caller's party */
+                                 to be opened is not the caller's; a group with one label for both its PWs */
+    KORVEZUL_TAKEN = 11,      /* the label is already open, or the local discriminator in the caller's party; the
+                                 service PW has a group, or the caller one of this ID */
     KORVEZUL_FULL = 12,       /* 32 sessions of the caller are open */
     KORVEZUL_BUFFER = 13,     /* the lent buffer is too short */
     KORVEZUL_LOCKED = 14,     /* a BFD message for a locked session */
@@ -89,7 +92,8 @@ enum korvezul_answer {
     KORVEZUL_PAST = 16,       /* an entry of a configuration, padding included, past its holder's end */
     KORVEZUL_LENGTH = 17,     /* a known entry whose length its layout does not allow */
     KORVEZUL_NEEDED = 18,     /* a needed entry missing or twice */
-    KORVEZUL_NO_GROUP = 24,   /* a DHC message that no group takes */
+    KORVEZUL_NO_GROUP = 24,   /* the caller has no group of this ID; or a DHC message that came on another label
+                                 than its DNI-PW's, or not from its peer */
     KORVEZUL_DHC = 25,        /* a TLV of a DHC message past the total, of a wrong length or twice, or neither */
     KORVEZUL_TABLE = 26       /* not 64 records, or open records that no call can have left: one out of range, two
                                  of one label, two of one party and discriminator, over 32 of a party, two
@@ -122,6 +126,28 @@ enum korvezul_mode {
     KORVEZUL_COORDINATED = 0,
     KORVEZUL_SOURCE = 1,
     KORVEZUL_SINK = 2
+};
+
+/* Which of the two PEs of a dual-homing group this one is: the working PE, whose PW is active until something
+ * ails it, or the protection PE, whose PW is standby until it is told. */
+enum korvezul_role {
+    KORVEZUL_WORKING = 0,
+    KORVEZUL_PROTECTION = 1
+};
+
+/* Whether a service PW, or an AC, carries traffic. */
+enum korvezul_activity {
+    KORVEZUL_STANDBY = 0,
+    KORVEZUL_ACTIVE = 1
+};
+
+/* What a PE forwards (RFC 8185, Table 1). With PW and AC both active it is KORVEZUL_PW_WITH_AC whatever the
+ * DNI-PW does; the two behind it ask for a DNI-PW that is open and UP. All else is dropped. */
+enum korvezul_forwarding {
+    KORVEZUL_DROPS = 0,
+    KORVEZUL_PW_WITH_AC = 1,  /* service PW <-> AC */
+    KORVEZUL_PW_WITH_DNI = 2, /* service PW <-> DNI-PW: PW active, AC standby */
+    KORVEZUL_DNI_WITH_AC = 3  /* DNI-PW <-> AC: PW standby, AC active */
 };
 
 /* A maintenance end point. kind 0, Section: Global_ID, Node, Interface. kind 1, LSP: Global_ID,
@@ -172,6 +198,35 @@ struct korvezul_opening {
     uint32_t party;
 };
 
+/* What a dual-homing group is set with: the Dual-Homing Group ID and the Node_ID of the peer, any numbers; the
+ * labels of the service PW and of the DNI-PW to the peer; and the role, a korvezul_role, where any number but 0
+ * is the protection PE. One label may be the DNI-PW of several groups. */
+struct korvezul_group_settings {
+    uint32_t id;
+    uint32_t peer;
+    uint32_t service;
+    uint32_t dni;
+    uint8_t role;
+};
+
+/* The same, and the party that sets it. */
+struct korvezul_grouping {
+    struct korvezul_group_settings settings;
+    uint32_t party;
+};
+
+/* The group of an ID, and the party that calls: each has its own IDs. */
+struct korvezul_group_name {
+    uint32_t party;
+    uint32_t id;
+};
+
+/* A group, and what its AC is to be: a korvezul_activity, where any number but 0 is active. */
+struct korvezul_ac_of {
+    struct korvezul_group_name group;
+    uint8_t ac;
+};
+
 /* What we call with: our label, our session to open. */
 static inline struct korvezul_circuit korvezul_ours(uint32_t label) {
     struct korvezul_circuit circuit = {label, KORVEZUL_OURS};
@@ -183,6 +238,17 @@ static inline struct korvezul_opening korvezul_opened_by_us(struct korvezul_sett
     return opening;
 }
 
+/* Our group, and the one that we set. */
+static inline struct korvezul_group_name korvezul_our_group(uint32_t id) {
+    struct korvezul_group_name group = {KORVEZUL_OURS, id};
+    return group;
+}
+
+static inline struct korvezul_grouping korvezul_grouped_by_us(struct korvezul_group_settings settings) {
+    struct korvezul_grouping group = {settings, KORVEZUL_OURS};
+    return group;
+}
+
 /* What the second operator calls with. */
 static inline struct korvezul_circuit korvezul_theirs(uint32_t label) {
     struct korvezul_circuit circuit = {label, KORVEZUL_THEIRS};
@@ -192,6 +258,16 @@ static inline struct korvezul_circuit korvezul_theirs(uint32_t label) {
 static inline struct korvezul_opening korvezul_opened_by_them(struct korvezul_settings settings) {
     struct korvezul_opening opening = {settings, KORVEZUL_THEIRS};
     return opening;
+}
+
+static inline struct korvezul_group_name korvezul_their_group(uint32_t id) {
+    struct korvezul_group_name group = {KORVEZUL_THEIRS, id};
+    return group;
+}
+
+static inline struct korvezul_grouping korvezul_grouped_by_them(struct korvezul_group_settings settings) {
+    struct korvezul_grouping group = {settings, KORVEZUL_THEIRS};
+    return group;
 }
 
 /* Whose label it is, one out of range too: for a host that serves both, as `watch` does with a capture. */
@@ -227,7 +303,7 @@ struct korvezul_peer {
 
 /* The dual-homing group of a service PW, in its record: the Dual-Homing Group ID, the peer's Node_ID and the
  * label of the DNI-PW; `set` is 1 where there is a group; `role` is 0 for the working PE and 1 for the protection
- * PE; `pw` and `ac` are 0 standby, 1 active. */
+ * PE; `pw` and `ac` are 0 standby, 1 active. `pw` may be behind the clock: ask with korvezul_ask_group. */
 struct korvezul_group {
     uint32_t id;
     uint32_t peer;
@@ -268,6 +344,20 @@ struct korvezul_report_answer {
     uint8_t rdi;
     uint8_t blocked;
     uint8_t conditions;
+};
+
+/* What a group tells: whether its service PW and its AC are active, each a korvezul_activity, and what is
+ * forwarded, a korvezul_forwarding. */
+struct korvezul_group_report {
+    uint8_t pw;
+    uint8_t ac;
+    uint8_t forwarding;
+};
+
+/* 0 and the three, or a refusal and three noughts. */
+struct korvezul_group_answer {
+    uint32_t answer;
+    struct korvezul_group_report group;
 };
 
 /* What korvezul_why is asked about. */
@@ -465,7 +555,11 @@ uint32_t korvezul_unlock(struct korvezul_session *row, size_t records, struct ko
 /* A message of any octets, from the G-ACh header on, that came in on a label.
  * 26, 1, 2, 3, 4, 5; then of a CC 3, 6, 3, 14; of a CV 3, 6, 3, 7, 3, 7, 14, the first 3 and 7 behind
  * the packet for type and length of the MEP-ID, the second for its value; of a fault message 3, 8, 3, 8,
- * 9. */
+ * 9; of a DHC message 3, 25, 24.
+ * A DHC message is for the group of its ID in the party of the label: the label must be that of its DNI-PW, and
+ * each of the two TLVs that is there must be from its peer, else 24. S makes the working PE's PW standby and the
+ * protection PE's active; F without S makes the protection PE's active; no message does more, and none takes a
+ * switch back. The session of the label is left as it was, and may be locked. */
 uint32_t korvezul_receive(struct korvezul_session *row, size_t records, struct korvezul_head *head,
                           struct korvezul_circuit circuit, const uint8_t *message, size_t octets,
                           uint64_t reading);
@@ -473,6 +567,29 @@ uint32_t korvezul_receive(struct korvezul_session *row, size_t records, struct k
 /* The clock, which is both parties', moves on. 26, 1. */
 uint32_t korvezul_tick(struct korvezul_session *row, size_t records, struct korvezul_head *head,
                        uint64_t reading);
+
+/* Sets a dual-homing group for a service PW and a DNI-PW, two open sessions of the party. Its AC is standby.
+ * The PW of a protection PE is standby; that of a working PE is active, unless a loss or a crossing of the
+ * service PW stands at the reading. From then on the working PE's PW becomes standby at the first accepted call
+ * with a reading, on whatever label, at which the service PW has a loss, and with an accepted crossed message on
+ * it; what makes it active again is korvezul_return_group alone. The group ends with its service PW's session.
+ * The DNI-PW may be closed: it is down, and its label opened again is the DNI-PW again.
+ * 26, 1, 2 (either label), 10 (one label for both), 11. */
+uint32_t korvezul_set_group(struct korvezul_session *row, size_t records, struct korvezul_head *head,
+                            struct korvezul_grouping group, uint64_t reading);
+
+/* The AC of a group becomes active or standby. The library does not watch it: the host says. 26, 1, 24. */
+uint32_t korvezul_set_ac(struct korvezul_session *row, size_t records, struct korvezul_head *head,
+                         struct korvezul_ac_of ac, uint64_t reading);
+
+/* The operator's return to the working PW: the PW of a group is again what setting would make it; the AC stays.
+ * Nothing tells the other PE: it is returned there too. 26, 1, 24. */
+uint32_t korvezul_return_group(struct korvezul_session *row, size_t records, struct korvezul_head *head,
+                               struct korvezul_group_name group, uint64_t reading);
+
+/* PW, AC and what is forwarded of a group, at the clock. Nothing changes. 26, 24. */
+struct korvezul_group_answer korvezul_ask_group(struct korvezul_session *row, size_t records,
+                                                struct korvezul_head *head, struct korvezul_group_name group);
 
 /* The report on a label at the clock. Nothing changes. 26, 2. */
 struct korvezul_report_answer korvezul_report(struct korvezul_session *row, size_t records,
@@ -500,7 +617,8 @@ struct korvezul_cv_read korvezul_read_cv(const uint8_t *message, size_t octets);
 struct korvezul_fault_read korvezul_read_fault(const uint8_t *message, size_t octets);
 
 /* The two TLVs may come in either order, with others among them; bits that have no field, reserved octets and
- * those behind the total are not looked at. No table knows DHC messages: korvezul_receive answers them 5. */
+ * those behind the total are not looked at. korvezul_receive, which hands the message to a group, gives the same
+ * refusal where this one does. */
 struct korvezul_dhc_read korvezul_read_dhc(const uint8_t *message, size_t octets);
 
 /* A MEP-ID from its own octets, type to end, as it stands in a CV: to be opened with, or to be written.
@@ -530,7 +648,8 @@ uint32_t korvezul_write_configuration(uint8_t *buffer, size_t size, uint32_t dis
  * each call. Each of these writes to the front of a buffer and needs no table; what lies behind is not
  * touched. A record reads back to the call and the answer that it was written from. It has no room for a
  * party: the label says whose call it is. A call on a label that is not the caller's has no record: it is
- * answered 26, 1, 2 or 10 and changes nothing. */
+ * answered 26, 1, 2 or 10 and changes nothing. Nor has a log a group: to all else an accepted call on one, and an
+ * accepted DHC message, is a tick to its reading, and a tick is written for it. */
 
 /* The 8 octets before the first record. 13. */
 uint32_t korvezul_log_header(uint8_t *buffer, size_t size);
@@ -592,6 +711,29 @@ KORVEZUL_ALIGNED(opening, 8);
 KORVEZUL_PLACE(opening, settings, 0);
 KORVEZUL_PLACE(opening, party, 112);
 
+KORVEZUL_SIZE(group_settings, 20);
+KORVEZUL_ALIGNED(group_settings, 4);
+KORVEZUL_PLACE(group_settings, id, 0);
+KORVEZUL_PLACE(group_settings, peer, 4);
+KORVEZUL_PLACE(group_settings, service, 8);
+KORVEZUL_PLACE(group_settings, dni, 12);
+KORVEZUL_PLACE(group_settings, role, 16);
+
+KORVEZUL_SIZE(grouping, 24);
+KORVEZUL_ALIGNED(grouping, 4);
+KORVEZUL_PLACE(grouping, settings, 0);
+KORVEZUL_PLACE(grouping, party, 20);
+
+KORVEZUL_SIZE(group_name, 8);
+KORVEZUL_ALIGNED(group_name, 4);
+KORVEZUL_PLACE(group_name, party, 0);
+KORVEZUL_PLACE(group_name, id, 4);
+
+KORVEZUL_SIZE(ac_of, 12);
+KORVEZUL_ALIGNED(ac_of, 4);
+KORVEZUL_PLACE(ac_of, group, 0);
+KORVEZUL_PLACE(ac_of, ac, 8);
+
 KORVEZUL_SIZE(key, 16);
 KORVEZUL_ALIGNED(key, 4);
 KORVEZUL_PLACE(key, node, 0);
@@ -651,6 +793,17 @@ KORVEZUL_PLACE(report_answer, alarm, 7);
 KORVEZUL_PLACE(report_answer, rdi, 8);
 KORVEZUL_PLACE(report_answer, blocked, 9);
 KORVEZUL_PLACE(report_answer, conditions, 10);
+
+KORVEZUL_SIZE(group_report, 3);
+KORVEZUL_ALIGNED(group_report, 1);
+KORVEZUL_PLACE(group_report, pw, 0);
+KORVEZUL_PLACE(group_report, ac, 1);
+KORVEZUL_PLACE(group_report, forwarding, 2);
+
+KORVEZUL_SIZE(group_answer, 8);
+KORVEZUL_ALIGNED(group_answer, 4);
+KORVEZUL_PLACE(group_answer, answer, 0);
+KORVEZUL_PLACE(group_answer, group, 4);
 
 KORVEZUL_SIZE(question, 28);
 KORVEZUL_ALIGNED(question, 4);
