@@ -12,19 +12,40 @@ use octets::put_u64;
 ghost use mathlib.Core.Path.{_≡_};
 ghost use mathlib.Core.List.{[]};
 ghost use Prim.Native.Nat.{_+_};
+ghost use Rattle.octets.specs.Numbers.{numberAt};
 ghost use Rattle.cv.specs.Forms.{valueLength};
 ghost use Rattle.cv.specs.MepId.{agiAt, mepIdAt, stretchAt, headOctets, wholeOctets, sameGroup, sameMepId};
+
+// Two of the four words of an AGI.
+struct Half {
+    first: u64,
+    second: u64,
+}
+
+// They are read in a function of their own that is called twice: so its code stands once, and what
+// reads a message stays small enough to be one piece of code with the loop over the records.
+fn half_at(s: &[u8], at: u32) -> Half
+    ensures { λ r. ⌜ r ≡ record { first = numberAt 8 (now (s .entry)) at; second = numberAt 8 (now (s .entry)) (at + 8) } ⌝ }
+{
+    let from = at as usize;
+    Half {
+        first: get_u64(s, from),
+        second: get_u64(s, from + 8),
+    }
+}
 
 // The AGI of the MEP-ID from a place of a slice.
 fn agi_at(s: &[u8], at: u16) -> Agi
     ensures { λ r. ⌜ r ≡ agiAt (now (s .entry)) at ⌝ }
 {
-    let from = at as usize;
+    let from = at as u32;
+    let front = half_at(s, from + 18);
+    let back = half_at(s, from + 34);
     Agi {
-        first: get_u64(s, from + 18),
-        second: get_u64(s, from + 26),
-        third: get_u64(s, from + 34),
-        fourth: get_u64(s, from + 42),
+        first: front.first,
+        second: front.second,
+        third: back.first,
+        fourth: back.second,
     }
 }
 

@@ -3,7 +3,6 @@ use octets::get_u8;
 use octets::get_u16;
 use octets::need;
 use octets::or_else;
-use octets::refuse_if;
 ghost use mathlib.Core.Path.{_≡_};
 ghost use Rattle.octets.specs.Choice.{answer};
 ghost use Rattle.gach.specs.Header.{headerRefusal, channelRefusal, headerPlace, channelPlace};
@@ -27,9 +26,14 @@ pub enum Kind {
 pub fn header_refusal(m: &[u8]) -> u32
     ensures { λ r. ⌜ r ≡ headerRefusal (now (m .entry)) ⌝ }
 {
+    if m.len() < 4 {
+        return 3;
+    }
     let first = get_u8(m, 0);
-    let version = need(first % 16 == 0, 4, 0);
-    refuse_if(m.len() < 4, 3, need(first / 16 == 1, 4, version))
+    if first / 16 != 1 {
+        return 4;
+    }
+    need(first % 16 == 0, 4, 0)
 }
 
 // The header's refusal, then 5 for a channel that is not the reader's own.

@@ -109,11 +109,17 @@ fn reach(occupied: u64) -> usize
     (64 - u64::leading_zeros(occupied)) as usize
 }
 
-// Two pairs have a key in common.
+// Two pairs have a key in common. Whose they are is asked only where the discriminators are the same.
 fn is_alike(q: u64, p: u64) -> bool
     ensures { λ r. ⌜ r ≡ alike q p ⌝ }
 {
-    either(label_in(p) == label_in(q), own_in(p) == own_in(q))
+    if label_in(p) == label_in(q) {
+        return true;
+    }
+    if discriminator_in(p) == discriminator_in(q) {
+        return own_in(p) == own_in(q);
+    }
+    false
 }
 
 // A key of a pair is 0, or some pair before this place has one of its keys.
