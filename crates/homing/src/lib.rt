@@ -17,8 +17,9 @@ pub use setting::group_of;
 pub use setting::no_group;
 pub use setting::set_refusal;
 pub use steps::ac_set;
-pub use steps::crossed_by;
 pub use steps::fallen_at;
+pub use steps::fallen_pw;
+pub use steps::lowered_pw;
 pub use steps::returned_at;
 
 // Numbers alone, so that a record that holds them can be lent by any caller. `dni` is the label of the

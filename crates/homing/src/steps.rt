@@ -4,7 +4,7 @@ use crate::setting::first_pw;
 use crate::setting::one_of_two;
 ghost use mathlib.Core.Path.{_≡_};
 ghost use mathlib.Core.Bool.{cond};
-ghost use Rattle.homing.specs.Groups.{acSet, returned, lowered, fallen, crossedBy};
+ghost use Rattle.homing.specs.Groups.{acSet, returned, lowered, fallen};
 
 // Setting the AC: 0 is standby, every other number active.
 pub fn ac_set(g: Group, ac: u8) -> Group
@@ -25,7 +25,7 @@ pub fn returned_at(g: Group, loss: bool, crossing: bool) -> Group
 }
 
 // A working PE's PW to standby, a protection PE's as it is.
-fn lowered_pw(role: u8, pw: u8) -> u8
+pub fn lowered_pw(role: u8, pw: u8) -> u8
     ensures { λ r. ⌜ r ≡ lowered role pw ⌝ }
 {
     if role == 0 {
@@ -34,7 +34,8 @@ fn lowered_pw(role: u8, pw: u8) -> u8
     pw
 }
 
-fn fallen_pw(loss: bool, role: u8, pw: u8) -> u8
+// The PW alone where TIMER is given: it is all that a loss moves of a group.
+pub fn fallen_pw(loss: bool, role: u8, pw: u8) -> u8
     ensures { λ r. ⌜ r ≡ cond loss (lowered role pw) pw ⌝ }
 {
     if loss {
@@ -49,14 +50,5 @@ pub fn fallen_at(g: Group, loss: bool) -> Group
 {
     let mut next = g;
     next.pw = fallen_pw(loss, g.role, g.pw);
-    next
-}
-
-// A crossed message on the service PW.
-pub fn crossed_by(g: Group) -> Group
-    ensures { λ r. ⌜ r ≡ crossedBy g ⌝ }
-{
-    let mut next = g;
-    next.pw = lowered_pw(g.role, g.pw);
     next
 }

@@ -32,6 +32,7 @@ use Rattle.conditions.specs.Taking.{faultAnswer}
 use Rattle.session.specs.declared.Session.{Session}
 use Rattle.session.specs.declared.acts.Acted.{Acted}
 use Rattle.session.specs.declared.acts.Faulted.{Faulted}
+use Rattle.session.specs.Queries.{groupAt}
 use Rattle.session.specs.Steps.{heardCc, heardCv, crossedAt, faultTaken}
 use Rattle.session.specs.Reception.{bfdAnswer, receivedAnswer, receivedBy}
 use Rattle.session.specs.Live.{receivedNumber, receivedRecord, behind, isFault, otherRefusal, liveOf, putLive, withLive, actedOf, actedUnder, actedBy, ccActed, cvActed, bfdActed, withFault, faultedOf, faultedUnder, faultedBy, faultActed}
@@ -95,21 +96,21 @@ module _ (s : Session) (m : List ℕ) (reading : ℕ) where
       let a = answer-refused (faultRefusal m) n (faultOf m) e in
       rw (a .0, ne-eqb n 0 (a .1), ne-eqb n 0 (a .1))
 
--- what a small result leaves out is as it was
+-- what a small result leaves out is as it was: of the group, a loss and a crossed message move the PW alone
 crossed-back : (s : Session) (reading : ℕ) → putLive s (liveOf (crossedAt s reading)) ≡ crossedAt s reading
-unfolding crossedAt
+unfolding crossedAt groupAt
 crossed-back s reading = refl
 
 cc-back : (s : Session) (reading : ℕ) (p : Packet) → putLive s (liveOf (heardCc s reading p)) ≡ heardCc s reading p
-unfolding heardCc
+unfolding heardCc groupAt
 cc-back s reading p = refl
 
 cv-back : (s : Session) (reading : ℕ) → putLive s (liveOf (heardCv s reading)) ≡ heardCv s reading
-unfolding heardCv
+unfolding heardCv groupAt
 cv-back s reading = refl
 
 fault-back : (s : Session) (reading : ℕ) (f : Fault) → withFault s (faultedOf (faultTaken s reading f) 0) ≡ faultTaken s reading f
-unfolding faultTaken
+unfolding faultTaken groupAt
 fault-back s reading f = refl
 
 -- under every answer

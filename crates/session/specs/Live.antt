@@ -17,6 +17,7 @@ use Rattle.message.specs.declared.Message.the-variants.{ContinuityCheck, Connec
 use Rattle.message.specs.Message.{byChannel, unheardDhc, messageRefusal, messageOf}
 use Rattle.rules.specs.declared.Received.{Received}
 use Rattle.rules.specs.Received.{receivedAs}
+use Rattle.homing.specs.Groups.{withPw}
 use Rattle.conditions.specs.Taking.{faultAnswer}
 use Rattle.session.specs.declared.Session.{Session}
 use Rattle.session.specs.declared.acts.Live.{Live}
@@ -41,9 +42,9 @@ receivedRecord s m reading = behind (receivedNumber s m reading) s (receivedBy s
 unfoldable pub isFault : List ℕ → Bool
 isFault m = eqb (headerRefusal m) 0 && eqb (channelOf m) faultChannel
 
--- what a BFD message can change of a record
+-- what a BFD message can change of a record: of its group, the PW alone
 abbrev pub liveOf : Session → Live
-liveOf s = record { timed = s .timed; crossed = s .crossed; peer = s .peer; state = s .state; crossing = s .crossing; group = s .group }
+liveOf s = record { timed = s .timed; crossed = s .crossed; peer = s .peer; state = s .state; crossing = s .crossing; pw = s .group .pw }
 
 -- a record with that put into it
 abbrev pub putLive : Session → Live → Session
@@ -56,7 +57,7 @@ putLive s live =
       peer = live .peer;
       state = live .state;
       crossing = live .crossing;
-      group = live .group;
+      group = withPw (live .pw) (s .group);
     }
 
 -- the record with what a BFD message changed
@@ -106,12 +107,12 @@ withFault s f =
       peer = s .peer;
       state = f .state;
       crossing = s .crossing;
-      group = f .group;
+      group = withPw (f .pw) (s .group);
     }
 
--- what a fault message can change, as it is in a record, with an answer
+-- what a fault message can change, of the group the PW alone, as it is in a record, with an answer
 abbrev pub faultedOf : Session → ℕ → Faulted
-faultedOf s n = record { places = s .conditions; group = s .group; answer = n; state = s .state }
+faultedOf s n = record { places = s .conditions; answer = n; state = s .state; pw = s .group .pw }
 
 -- the same, as it is in the record behind the answer n
 abbrev pub faultedUnder : ℕ → Session → Session → Faulted

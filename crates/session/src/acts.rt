@@ -1,9 +1,9 @@
 // A received message acts on a record by a small result: what it can change, and its answer.
 use crate::Peer;
 use crate::Session;
-use crate::queries::group_at;
 use crate::queries::held_at;
 use crate::queries::is_locked;
+use crate::queries::pw_at;
 use crate::queries::state_at;
 use crate::steps::fault_state;
 use bfd::Packet;
@@ -14,7 +14,6 @@ use fault::FaultAnswer;
 use gach::CC_CHANNEL;
 use gach::CV_CHANNEL;
 use gach::FAULT_CHANNEL;
-use homing::Group;
 use octets::bit;
 use octets::either;
 use octets::get_u16;
@@ -31,14 +30,14 @@ ghost use Rattle.session.specs.Steps.{heardCc, heardCv, crossedAt};
 ghost use Rattle.session.specs.Reception.{bfdAnswer};
 ghost use Rattle.session.specs.Live.{isFault, liveOf, putLive, withLive, actedOf, ccActed, cvActed, bfdActed, withFault, faultedOf, faultedBy, faultActed};
 
-// What a BFD message can change of a record.
+// What a BFD message can change of a record: of its group, the PW alone.
 pub struct Live {
     pub timed: u64,
     pub crossed: u64,
     pub peer: Peer,
     pub state: u8,
     pub crossing: u8,
-    pub group: Group,
+    pub pw: u8,
 }
 
 pub struct Acted {
@@ -46,12 +45,12 @@ pub struct Acted {
     pub answer: u32,
 }
 
-// What a fault message can change of a record.
+// What a fault message can change of a record: of its group, the PW alone.
 pub struct Faulted {
     pub places: Conditions,
-    pub group: Group,
     pub answer: u32,
     pub state: u8,
+    pub pw: u8,
 }
 
 // A fault message, by its header.
@@ -68,14 +67,13 @@ fn live_of(s: Session) -> Live
     ensures { λ r. ⌜ r ≡ liveOf s ⌝ }
 {
     let peer = s.peer;
-    let group = s.group;
     Live {
         timed: s.timed,
         crossed: s.crossed,
         peer: peer,
         state: s.state,
         crossing: s.crossing,
-        group: group,
+        pw: s.group.pw,
     }
 }
 
@@ -83,14 +81,13 @@ fn put_live(s: Session, live: Live) -> Session
     ensures { λ r. ⌜ r ≡ putLive s live ⌝ }
 {
     let peer = live.peer;
-    let group = live.group;
     let mut next = s;
     next.timed = live.timed;
     next.crossed = live.crossed;
     next.peer = peer;
     next.state = live.state;
     next.crossing = live.crossing;
-    next.group = group;
+    next.group.pw = live.pw;
     next
 }
 
@@ -122,7 +119,7 @@ fn cc_live(s: Session, reading: u64, p: Packet) -> Live
         peer: peer,
         state: rules::stored_number(to),
         crossing: s.crossing,
-        group: group_at(s, reading),
+        pw: pw_at(s, reading),
     }
 }
 
@@ -134,7 +131,7 @@ fn cv_live(s: Session, reading: u64) -> Live
     let mut live = live_of(s);
     live.timed = reading;
     live.state = state;
-    live.group = group_at(s, reading);
+    live.pw = pw_at(s, reading);
     live
 }
 
@@ -152,7 +149,7 @@ fn crossed_live(s: Session, reading: u64) -> Live
     live.crossed = reading;
     live.crossing = 1;
     live.state = number;
-    live.group = homing::crossed_by(group_at(s, reading));
+    live.pw = homing::lowered_pw(s.group.role, pw_at(s, reading));
     live
 }
 
@@ -263,12 +260,11 @@ fn fault_refused(s: Session, n: u32) -> Faulted
     ensures { λ r. ⌜ r ≡ faultedOf s n ⌝ }
 {
     let places = s.conditions;
-    let group = s.group;
     Faulted {
         places: places,
-        group: group,
         answer: n,
         state: s.state,
+        pw: s.group.pw,
     }
 }
 
@@ -284,9 +280,9 @@ fn fault_by(s: Session, reading: u64, f: Fault) -> Faulted
     let state = fault_state(s, reading, f);
     Faulted {
         places: places,
-        group: group_at(s, reading),
         answer: 0,
         state: state,
+        pw: pw_at(s, reading),
     }
 }
 
@@ -306,10 +302,9 @@ pub fn with_fault(s: Session, f: Faulted) -> Session
     ensures { λ r. ⌜ r ≡ withFault s f ⌝ }
 {
     let places = f.places;
-    let group = f.group;
     let mut next = s;
     next.conditions = places;
-    next.group = group;
+    next.group.pw = f.pw;
     next.state = f.state;
     next
 }

@@ -102,6 +102,13 @@ pub fn group_at(s: Session, now: u64) -> Group
     homing::fallen_at(group, loss_at(s, now))
 }
 
+// Its PW alone.
+pub(crate) fn pw_at(s: Session, now: u64) -> u8
+    ensures { λ r. ⌜ r ≡ groupAt s now .pw ⌝ }
+{
+    homing::fallen_pw(loss_at(s, now), s.group.role, s.group.pw)
+}
+
 // The seven numbers of the report.
 pub fn report_at(s: Session, now: u64) -> Report
     ensures { λ r. ⌜ r ≡ reportAt s now ⌝ }

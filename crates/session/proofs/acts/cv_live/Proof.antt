@@ -5,7 +5,7 @@ use Rattle.session.proofs.acts.cv_live.Tie as tie
 
 returns : tie.Need-returns
 unfolding heardCv
-returns c = rw (c .group-at .ensures, c .before .live-of .ensures, c .before .before .stored-number .ensures, c .before .before .before .state-at .ensures)
+returns c = rw (c .pw-at .ensures, c .before .live-of .ensures, c .before .before .stored-number .ensures, c .before .before .before .state-at .ensures)
 
 pub cv-live-spec : {M : Type 1} → statement M
 cv-live-spec =

@@ -16,7 +16,7 @@ returns-2 : tie.Need-returns-2
 unfolding faultTaken
 returns-2 c =
     let e = ap (λ (v : Verdict). v .answer) (c .before .before .before .before .before .take-fault .ensures) in
-    rw (← e, c .before .before .before .if1 .left, c .before .before .before .before .before .take-fault .ensures, c .before .fault-state .ensures, c .group-at .ensures)
+    rw (← e, c .before .before .before .if1 .left, c .before .before .before .before .before .take-fault .ensures, c .before .fault-state .ensures, c .pw-at .ensures)
 
 pub fault-by-spec : {M : Type 1} → statement M
 fault-by-spec =
