@@ -93,15 +93,6 @@ fn note_group(pairs: &mut [u64], at: usize, key: u64)
     }
 }
 
-// A record with a group: its pair and the group's key.
-fn taken_group(pairs: &mut [u64], s: Progress, at: usize, pair: u64, key: u64) -> Progress
-    ensures { λ n. ⌜ (n ≡ passedWith 1 s) × (now (pairs .exit) ≡ notedGroup (set (now (pairs .entry)) at pair) at key) ⌝ }
-{
-    note(&mut *pairs, at, pair);
-    note_group(&mut *pairs, at, key);
-    passed_group(s)
-}
-
 // One record is taken in. It is looked at only where its place is occupied. What is noted is noted last:
 // behind a store the record would be loaded whole.
 pub fn take_in(pairs: &mut [u64], s: Progress, at: usize, r: Session) -> Progress
@@ -110,12 +101,14 @@ pub fn take_in(pairs: &mut [u64], s: Progress, at: usize, r: Session) -> Progres
     if s.rest % 2 == 1 {
         if session::session_sound(r, s.clock) {
             let pair = key_pair(r.settings.label, r.settings.discriminator);
-            if r.group.set != 1 {
-                note(pairs, at, pair);
-                return passed_by(s);
+            if r.group.set == 1 {
+                let key = group_key(r.settings.label, r.group.id);
+                note(&mut *pairs, at, pair);
+                note_group(&mut *pairs, at, key);
+                return passed_group(s);
             }
-            let key = group_key(r.settings.label, r.group.id);
-            return taken_group(pairs, s, at, pair, key);
+            note(pairs, at, pair);
+            return passed_by(s);
         }
         return failed_at(s);
     }

@@ -10,12 +10,12 @@ use Rattle.scan.proofs.passing.take_in.Tie as tie
 returns : tie.Need-returns
 unfolding takenIn noted notedOpen
 returns c =
-    let a = c .before .before .before .before .before .before .before .before .before .before .before .before .before .args in
-    let on = eq-eqb (a .s .rest % 2) 1 (c .before .before .before .before .before .before .before .before .before .before .if1 .taken) in
-    let sound = c .before .before .before .before .before .before .before .before .before .session-sound .ensures in
-    let group = ne-eqb (a .r .group .set) 1 (c .before .before .before .before .before .if3 .taken) in (
-      rw (c .passed-by .ensures, on, ← sound, c .before .before .before .before .before .before .before .before .if2 .taken, group),
-      rw (c .before .before .before .note .ensures, c .before .before .before .before .before .before .before .key-pair .ensures, on, ← sound, c .before .before .before .before .before .before .before .before .if2 .taken, group),
+    let a = c .before .before .before .before .before .before .before .before .before .before .before .before .before .before .before .before .before .before .args in
+    let on = eq-eqb (a .s .rest % 2) 1 (c .before .before .before .before .before .before .before .before .before .before .before .before .before .before .before .if1 .taken) in
+    let sound = c .before .before .before .before .before .before .before .before .before .before .before .before .before .before .session-sound .ensures in
+    let group = eq-eqb (a .r .group .set) 1 (c .before .before .before .before .before .before .before .before .before .before .if3 .taken) in (
+      rw (c .passed-group .ensures, on, ← sound, c .before .before .before .before .before .before .before .before .before .before .before .before .before .if2 .taken, group),
+      rw (c .before .before .before .note-group .ensures, c .before .before .before .before .before .before .before .before .before .group-key .ensures, c .before .before .before .before .before .before .before .note .ensures, c .before .before .before .before .before .before .before .before .before .before .before .before .key-pair .ensures, on, ← sound, c .before .before .before .before .before .before .before .before .before .before .before .before .before .if2 .taken, group),
     )
 
 returns-2 : tie.Need-returns-2
@@ -24,9 +24,9 @@ returns-2 c =
     let a = c .before .before .before .before .before .before .before .before .before .before .before .before .before .args in
     let on = eq-eqb (a .s .rest % 2) 1 (c .before .before .before .before .before .before .before .before .before .before .if1 .taken) in
     let sound = c .before .before .before .before .before .before .before .before .before .session-sound .ensures in
-    let group = eq-eqb (a .r .group .set) 1 (c .before .before .before .before .before .if3 .left) in (
-      rw (c .before .before .taken-group .ensures .0, on, ← sound, c .before .before .before .before .before .before .before .before .if2 .taken, group),
-      rw (c .before .before .taken-group .ensures .1, c .before .before .before .before .group-key .ensures, c .before .before .before .before .before .before .before .key-pair .ensures, on, ← sound, c .before .before .before .before .before .before .before .before .if2 .taken, group),
+    let group = ne-eqb (a .r .group .set) 1 (c .before .before .before .before .before .if3 .left) in (
+      rw (c .passed-by .ensures, on, ← sound, c .before .before .before .before .before .before .before .before .if2 .taken, group),
+      rw (c .before .before .before .note2 .ensures, c .before .before .before .before .before .before .before .key-pair .ensures, on, ← sound, c .before .before .before .before .before .before .before .before .if2 .taken, group),
     )
 
 returns-3 : tie.Need-returns-3
@@ -47,6 +47,6 @@ pub take-in-spec : {M : Type 1} → statement M
 take-in-spec =
     tie.close
     (tie.spec
-    (λ c κs. search needs) (λ c κs. search needs) (λ c κs. search needs) (λ c κs. search needs) (λ c. search needs) returns
-    (λ c κs. search needs) (λ c κs. search needs) (λ c. search needs) returns-2
+    (λ c κs. search needs) (λ c κs. search needs) (λ c κs. search needs) (λ c κs. search needs) (λ c κs. search needs) (λ c κs. search needs)
+    (λ c. search needs) returns (λ c κs. search needs) (λ c κs. search needs) (λ c. search needs) returns-2
     (λ c κs. search needs) returns-3 (λ c κs. search needs) returns-4)
