@@ -1,5 +1,7 @@
 // How late, exactly: spacing errors as signed 64-bit numbers, and the account of many of them. What
 // does not fit marks the account, which stays so; only the finished numbers are refused, with 21.
+#![tactic(auto)]
+
 mod numbers;
 
 ghost use Rattle.std.specs.Prelude.{◌≡◌};
@@ -10,21 +12,21 @@ pub use numbers::size_of;
 use numbers::{MOST, greatest_of, least_of, negative, positive, sum_in, total};
 
 // A signed number, 0 where it does not fit.
-#[derive(Drop)]
+#[derive(Clone, Copy)]
 pub struct Signed {
     pub value: i64,
     pub fits: bool,
 }
 
 // A number from 0 to the greatest signed one, 0 where it does not fit.
-#[derive(Drop)]
+#[derive(Clone, Copy)]
 pub struct Count {
     pub value: u64,
     pub fits: bool,
 }
 
 // What is counted over the pairs so far. over: a number does not fit.
-#[derive(Drop)]
+#[derive(Clone, Copy)]
 pub struct Account {
     pub pairs: u64,
     pub least: i64,
@@ -35,7 +37,7 @@ pub struct Account {
 }
 
 // The five numbers under answer 0, or 21. paired: there is a least and a greatest.
-#[derive(Drop)]
+#[derive(Clone, Copy)]
 pub struct Spaced {
     pub answer: u32,
     pub pairs: u64,

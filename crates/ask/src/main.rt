@@ -1,11 +1,13 @@
 // A log asked by its index file: what a label reported at a reading. The index is read whole, and of the
 // log its length, its header and the records behind the one entry that is used. Here the system calls are
 // made; all that is done between them is `index_file`'s.
+#![tactic(auto)]
+
 use index_file::Sought;
 use located::{complain, read_at};
 
 // The files, and what is asked.
-#[derive(Drop)]
+#[derive(Clone, Copy)]
 struct Asked {
     log: i32,
     index: i32,
@@ -15,7 +17,7 @@ struct Asked {
 
 // What the log is: whether it starts with the header, how many octets it has, and whether that is not
 // known.
-#[derive(Drop)]
+#[derive(Clone, Copy)]
 struct Front {
     marked: bool,
     size: u64,
@@ -23,7 +25,7 @@ struct Front {
 }
 
 // What was sought, and whether a read failed.
-#[derive(Drop)]
+#[derive(Clone, Copy)]
 struct Looked {
     sought: Sought,
     failed: bool,

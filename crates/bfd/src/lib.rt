@@ -1,4 +1,6 @@
 // The BFD control packet (RFC 5880, 4.1) and the continuity check message that carries it.
+#![tactic(auto)]
+
 mod place;
 mod read;
 mod write;
@@ -9,7 +11,7 @@ pub use write::{cc_field_refusal, field_refusal, packet_octets, write_cc};
 
 // The fields of a packet: state 0 ADMIN DOWN, 1 DOWN, 2 INIT, 3 UP; the flags P, F, C and D; both
 // discriminators; the desired transmit, required receive and required echo intervals.
-#[derive(Drop)]
+#[derive(Clone, Copy)]
 pub struct Packet {
     pub diagnostic: u8,
     pub state: u8,
@@ -27,7 +29,7 @@ pub struct Packet {
 
 // What reading a CC says, with a place: behind the fields the octets used, behind a refusal where the
 // message went wrong.
-#[derive(Drop)]
+#[derive(Clone, Copy)]
 pub enum CcAnswer {
     Read(Packet, usize),
     Refused(u32, usize),

@@ -1,5 +1,7 @@
 // A log that can be asked: its records one by one, and the record of one label and the clock behind
 // them. By value over lent octets; an index is lent beside it.
+#![tactic(auto)]
+
 mod reading;
 mod records;
 
@@ -10,7 +12,7 @@ use session::Session;
 
 // What is known between two records: the label's record, whose label is 0 where the session is not
 // open, and the clock.
-#[derive(Drop)]
+#[derive(Clone, Copy)]
 pub struct Point {
     pub session: Session,
     pub clock: u64,
@@ -18,7 +20,7 @@ pub struct Point {
 
 // Where reading ended: the octets left, how many records more could have been read, and whether a
 // record that was read is cut.
-#[derive(Drop)]
+#[derive(Clone, Copy)]
 pub struct Ended {
     pub point: Point,
     pub left: usize,
@@ -27,14 +29,14 @@ pub struct Ended {
 }
 
 // 0 and the number of records, or 19.
-#[derive(Drop)]
+#[derive(Clone, Copy)]
 pub struct Counted {
     pub answer: u32,
     pub count: usize,
 }
 
 // What is told: the number, and beside 0 the report and how many entries were looked at.
-#[derive(Drop)]
+#[derive(Clone, Copy)]
 pub struct Answer {
     pub answer: u32,
     pub looked: usize,

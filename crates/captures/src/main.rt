@@ -3,6 +3,8 @@
 // printed for each capture; where a text differs, it is printed too.
 //
 // The lines were made by the second program, and each was worked out by hand (the .txt beside it).
+#![tactic(auto)]
+
 mod playing;
 
 use stored::say;

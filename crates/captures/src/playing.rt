@@ -7,7 +7,7 @@ use owner::Feeding;
 use stored::{further, put_text};
 
 // The table, and how many octets of the capture have come.
-#[derive(Drop)]
+#[derive(Clone, Copy)]
 struct Playing {
     table: Feeding,
     have: usize,

@@ -12,7 +12,7 @@ use rules::Key;
 use session::Session;
 
 // A place as a candidate: whether it is one, its record number, its condition and its end.
-#[derive(Drop)]
+#[derive(Clone, Copy)]
 pub struct Candidate {
     pub place: Condition,
     pub number: u64,

@@ -2,6 +2,8 @@
 // how old it is and what ends it. Beside the record of the session that is asked about six record
 // numbers are kept: of what it was timed from, of its last crossed message, and of the message in
 // each of its four condition places. All dates are in the session's own record.
+#![tactic(auto)]
+
 mod answer;
 mod notes;
 
@@ -10,7 +12,7 @@ pub use notes::{anew, marks_if, note};
 use rules::Key;
 
 // What is asked about.
-#[derive(Drop)]
+#[derive(Clone, Copy)]
 pub enum Thing {
     Crossing,
     Loss,
@@ -21,7 +23,7 @@ pub enum Thing {
 // The number of the record that accounts for it, that record's reading and its age at the clock, and
 // the end: the first reading at which the thing no longer stands, of a loss the first at which it
 // stood.
-#[derive(Drop)]
+#[derive(Clone, Copy)]
 pub struct Cause {
     pub number: u64,
     pub reading: u64,
@@ -30,14 +32,14 @@ pub struct Cause {
 }
 
 // The cause, or the refusal's number.
-#[derive(Drop)]
+#[derive(Clone, Copy)]
 pub enum WhyAnswer {
     Because(Cause),
     Refused(u32),
 }
 
 // What the detection time is timed from.
-#[derive(Drop)]
+#[derive(Clone, Copy)]
 pub enum Timed {
     Opening,
     Unlock,
@@ -47,7 +49,7 @@ pub enum Timed {
 
 // The record numbers of a session's marks, 0 where there is none; the octets of its last crossed
 // message; and by what it was timed: 0 opening, 1 unlock, 2 CC, 3 CV.
-#[derive(Drop)]
+#[derive(Clone, Copy)]
 pub struct Marks {
     pub timed: u64,
     pub crossed: u64,
@@ -60,7 +62,7 @@ pub struct Marks {
 }
 
 // What a record notes, and whether it is a crossed message, whose octets are to be kept.
-#[derive(Drop)]
+#[derive(Clone, Copy)]
 pub struct Noted {
     pub marks: Marks,
     pub crossed: bool,

@@ -1,6 +1,8 @@
 // What the desk asks of two captures of one fibre: the two files from the arguments, what differs to
 // standard output, an entry a line, and where the rest of the first begins. Files of any length, in
 // constant memory: each is read once to see whether it is bad, and then both once more, pair by pair.
+#![tactic(auto)]
+
 mod window;
 
 use comparison::Marks;
@@ -8,7 +10,7 @@ use window::{Window, filled, left, opened, passed, seen};
 
 // The place where the rest begins, the number of the pair to come, whether all agreed so far, and
 // whether all was written.
-#[derive(Drop)]
+#[derive(Clone, Copy)]
 struct Told {
     rest: u64,
     number: u64,
@@ -17,7 +19,7 @@ struct Told {
 }
 
 // Both files before a pair, what was told of those before it, and whether there was one.
-#[derive(Drop)]
+#[derive(Clone, Copy)]
 struct Pair {
     first: Window,
     second: Window,
@@ -25,7 +27,7 @@ struct Pair {
     go: bool,
 }
 
-#[derive(Drop)]
+#[derive(Clone, Copy)]
 struct Judged {
     good: bool,
     failed: bool,

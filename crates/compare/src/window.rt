@@ -5,7 +5,7 @@ ghost use Rattle.compare.specs.Windows.{left_in, seen_in, sum, further_by};
 // From one place of the buffer to another they are not passed yet; whether the file has no more
 // behind them, or a read of it failed; which octet of the file is the first of them, and how many
 // records were passed.
-#[derive(Drop)]
+#[derive(Clone, Copy)]
 pub struct Window {
     pub file: i32,
     pub from: usize,

@@ -3,6 +3,8 @@
 // answered that is just long enough, and one that is shorter by one entry.
 //
 // The pairs and what is said of them were worked out by hand (the .txt beside them).
+#![tactic(auto)]
+
 ghost use Rattle.io.specs.Counts.{IsPrefixLen};
 
 use comparison::Compared;

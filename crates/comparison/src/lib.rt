@@ -1,5 +1,7 @@
 // Two captures compared record by record at the same position, over all fields: the list of what
 // differs, and what is left of the first from there on.
+#![tactic(auto)]
+
 mod entries;
 mod pair;
 mod remaining;
@@ -11,14 +13,14 @@ pub use remaining::{bad_capture, rest, rest_place};
 pub use words::{put_entry, put_pair, put_refused, put_rest};
 
 // The answer, and how many entries the list has.
-#[derive(Drop)]
+#[derive(Clone, Copy)]
 pub struct Compared {
     pub answer: u32,
     pub count: usize,
 }
 
 // What is listed of the records at one position: the fields that differ, or whose an extra one is.
-#[derive(Drop)]
+#[derive(Clone, Copy)]
 pub struct Marks {
     pub time: bool,
     pub label: bool,

@@ -1,5 +1,7 @@
 // The fault conditions of a session: four places, by value. Decisions are made on numbers and marks;
 // what is built is built whole.
+#![tactic(auto)]
+
 mod sound;
 mod standing;
 mod taking;
@@ -12,7 +14,7 @@ pub use taking::{no_conditions, take_fault};
 // A place: the key of its condition (type 0 where there is none), the L flag as 0 or 1, the refresh
 // in seconds, and the reading of its last message.
 #[repr(C)]
-#[derive(Drop)]
+#[derive(Clone, Copy)]
 pub struct Condition {
     pub at: u64,
     pub key: Key,
@@ -21,7 +23,7 @@ pub struct Condition {
 }
 
 #[repr(C)]
-#[derive(Drop)]
+#[derive(Clone, Copy)]
 pub struct Conditions {
     pub first: Condition,
     pub second: Condition,
@@ -30,7 +32,7 @@ pub struct Conditions {
 }
 
 // What a fault message leaves: the places where it is accepted, and its answer.
-#[derive(Drop)]
+#[derive(Clone, Copy)]
 pub struct Verdict {
     pub places: Conditions,
     pub answer: u32,

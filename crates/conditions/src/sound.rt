@@ -76,7 +76,7 @@ fn place_sound(c: Condition, clock: u64) -> bool
 // condition stands, its type, its two marks and its Global_ID in one number, and the IF_ID as one word.
 // The tag is 0 where nothing stands. Two numbers in place of a condition's fields: a place is done
 // with before the next one is loaded.
-#[derive(Drop)]
+#[derive(Clone, Copy)]
 struct Digest {
     sound: bool,
     tag: u64,

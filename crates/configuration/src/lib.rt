@@ -1,5 +1,7 @@
 // Settings of a session from LSP Ping records (document 004, 3.2): nested TLVs, down to three levels,
 // that carry a local discriminator and a period.
+#![tactic(auto)]
+
 mod entry;
 mod list;
 mod read;
@@ -9,7 +11,7 @@ pub use read::read_configuration;
 pub use write::write_configuration;
 
 // What reading a configuration says: discriminator and period, or a refusal.
-#[derive(Drop)]
+#[derive(Clone, Copy)]
 pub enum ConfigurationAnswer {
     Read(u32, u32),
     Refused(u32),
@@ -17,7 +19,7 @@ pub enum ConfigurationAnswer {
 
 // What was met among the entries so far: the two numbers, how often each needed entry was met (2 for
 // many), whether an entry ran past its holder's end, whether a known one had a wrong length.
-#[derive(Drop)]
+#[derive(Clone, Copy)]
 pub struct Seen {
     pub discriminator: u32,
     pub period: u32,

@@ -1,4 +1,6 @@
 // The dual-homing coordination (DHC) message of RFC 8185: read, and written in its plain form.
+#![tactic(auto)]
+
 mod numbers;
 mod read;
 mod tlv;
@@ -15,7 +17,7 @@ pub const DHC_CHANNEL: u16 = 0x0009;
 
 // The PW Status TLV, where there is one: Destination and Source Node_ID, DNI-PW ID, then P (the
 // source is the protection PE), D (signal degrade) and F (signal fail).
-#[derive(Drop)]
+#[derive(Clone, Copy)]
 pub enum PwStatus {
     Absent,
     Present(u32, u32, u32, bool, bool, bool),
@@ -23,14 +25,14 @@ pub enum PwStatus {
 
 // The Dual-Node Switching TLV, where there is one: Destination and Source Node_ID, DNI-PW ID, then S
 // (switch to the protection PW) and P (the source is the protection PE).
-#[derive(Drop)]
+#[derive(Clone, Copy)]
 pub enum NodeSwitching {
     Absent,
     Present(u32, u32, u32, bool, bool),
 }
 
 // What a DHC message says; id is the Dual-Homing Group ID.
-#[derive(Drop)]
+#[derive(Clone, Copy)]
 pub struct Dhc {
     pub id: u32,
     pub status: PwStatus,
@@ -38,7 +40,7 @@ pub struct Dhc {
 }
 
 // What reading says: the fields, or the refusal.
-#[derive(Drop)]
+#[derive(Clone, Copy)]
 pub enum DhcAnswer {
     Read(Dhc),
     Refused(u32),

@@ -14,7 +14,7 @@ use octets::{bit, need, or_else, refuse_if};
 // A PW Status with a mark for its presence. Behind a mark of 0 there is nothing: the numbers are 0
 // when read, and others are refused when written (10), since the message would lose them.
 #[repr(C)]
-#[derive(Drop)]
+#[derive(Clone, Copy)]
 pub struct StatusNumbers {
     pub destination: u32,
     pub source: u32,
@@ -27,7 +27,7 @@ pub struct StatusNumbers {
 
 // A Dual-Node Switching in the same way.
 #[repr(C)]
-#[derive(Drop)]
+#[derive(Clone, Copy)]
 pub struct SwitchingNumbers {
     pub destination: u32,
     pub source: u32,
@@ -38,7 +38,7 @@ pub struct SwitchingNumbers {
 }
 
 #[repr(C)]
-#[derive(Drop)]
+#[derive(Clone, Copy)]
 pub struct DhcNumbers {
     pub id: u32,
     pub status: StatusNumbers,
@@ -47,7 +47,7 @@ pub struct DhcNumbers {
 
 // What reading says: 0 and the fields, or a refusal and noughts.
 #[repr(C)]
-#[derive(Drop)]
+#[derive(Clone, Copy)]
 pub struct DhcRead {
     pub answer: u32,
     pub dhc: DhcNumbers,

@@ -7,7 +7,7 @@ use octets::{either, get_u16};
 // What the TLVs before the place `at` said. bad tells that one was wrong; status and switching are
 // the places of a PW Status and a Dual-Node Switching TLV, 0 until then. The total length is two
 // octets, so a TLV starts below 12 + 65,535.
-#[derive(Drop)]
+#[derive(Clone, Copy)]
 pub(crate) struct Tlvs {
     pub at: u32,
     pub bad: bool,

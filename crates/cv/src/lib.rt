@@ -1,4 +1,6 @@
 // The connectivity verification message: a BFD control packet and the source MEP-ID behind it.
+#![tactic(auto)]
+
 mod form;
 mod mep_id;
 mod place;
@@ -14,7 +16,7 @@ pub use write::{cv_field_refusal, cv_octets, write_cv};
 
 // The octets of an attachment group identifier, 8 in a number and the first one highest.
 #[repr(C)]
-#[derive(Drop)]
+#[derive(Clone, Copy)]
 pub struct Agi {
     pub first: u64,
     pub second: u64,
@@ -27,7 +29,7 @@ pub struct Agi {
 // and an AGI of 0 to 32 octets, with its type in `group` and its length in `size`). What a kind
 // does not use, and the octets behind the AGI's length, are nobody's field.
 #[repr(C)]
-#[derive(Drop)]
+#[derive(Clone, Copy)]
 pub struct MepId {
     pub agi: Agi,
     pub global: u32,
@@ -39,7 +41,7 @@ pub struct MepId {
 }
 
 // What a CV carries.
-#[derive(Drop)]
+#[derive(Clone, Copy)]
 pub struct Verification {
     pub packet: bfd::Packet,
     pub mep: MepId,
@@ -47,21 +49,21 @@ pub struct Verification {
 
 // What reading a CV says, with a place: behind the fields the octets used, behind a refusal where the
 // message went wrong.
-#[derive(Drop)]
+#[derive(Clone, Copy)]
 pub enum CvAnswer {
     Read(Verification, usize),
     Refused(u32, usize),
 }
 
 // What reading a MEP-ID alone says.
-#[derive(Drop)]
+#[derive(Clone, Copy)]
 pub enum MepAnswer {
     Read(MepId),
     Refused(u32),
 }
 
 // A written CV: the first `count` octets.
-#[derive(Drop)]
+#[derive(Clone, Copy)]
 pub struct CvOctets {
     pub octets: [u8; 78],
     pub count: usize,

@@ -10,7 +10,7 @@ use crate::{Agi, MepId};
 use octets::{get_u8, get_u16, get_u32, get_u64, put_octets, put_u64};
 
 // Two of the four words of an AGI.
-#[derive(Drop)]
+#[derive(Clone, Copy)]
 struct Half {
     first: u64,
     second: u64,

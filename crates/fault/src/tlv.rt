@@ -7,7 +7,7 @@ use octets::{get_u8, get_u32};
 // What the TLVs before the place `at` said. bad is 0, or the octet that is wrong, 9 at least; ifid
 // and globalid tell whether an IF_ID and a Global_ID were among them, and node, interface and global
 // are 0 until then. The total length is one octet, so a TLV starts below 9 + 256.
-#[derive(Drop)]
+#[derive(Clone, Copy)]
 pub(crate) struct Tlvs {
     pub at: u16,
     pub bad: u16,

@@ -1,6 +1,8 @@
 // A piece of a capture fed to a table: each whole record is a call on the row, and its line goes
 // into a lent output. Nobody can touch the row between two records, and a call leaves a row in order
 // in order: so 26 is asked once.
+#![tactic(auto)]
+
 mod asking;
 mod calls;
 mod records;
@@ -21,7 +23,7 @@ use session::Session;
 use table::Head;
 
 // How far a table is fed: clock and set, records so far, octets used and written.
-#[derive(Drop)]
+#[derive(Clone, Copy)]
 pub struct Fed {
     pub head: Head,
     pub number: u64,

@@ -9,7 +9,7 @@ use octets::{bit, need, or_else, refuse_if};
 
 // A BFD control packet: as `bfd::Packet`, with the marks P, F, C and D as numbers.
 #[repr(C)]
-#[derive(Drop)]
+#[derive(Clone, Copy)]
 pub struct PacketFields {
     pub my: u32,
     pub your: u32,
@@ -29,7 +29,7 @@ pub struct PacketFields {
 // 0 there is nothing: the numbers are 0 when read, and others are refused when written (10), since
 // the message would lose them.
 #[repr(C)]
-#[derive(Drop)]
+#[derive(Clone, Copy)]
 pub struct FaultFields {
     pub node: u32,
     pub interface: u32,

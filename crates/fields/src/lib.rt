@@ -1,4 +1,6 @@
 // Messages for a host: their fields in numbers alone, read from octets and written to them.
+#![tactic(auto)]
+
 mod fields;
 mod readers;
 mod writers;

@@ -14,7 +14,7 @@ use cv::{Agi, CvAnswer, MepAnswer, MepId};
 use fault::FaultAnswer;
 
 #[repr(C)]
-#[derive(Drop)]
+#[derive(Clone, Copy)]
 pub struct CcRead {
     pub place: u64,
     pub answer: u32,
@@ -24,7 +24,7 @@ pub struct CcRead {
 // A CV's packet and MEP-ID, and the part of the message that is its MEP-ID, type to end: the place
 // from which it stands, and its octets, 16, or 18 to 50.
 #[repr(C)]
-#[derive(Drop)]
+#[derive(Clone, Copy)]
 pub struct CvRead {
     pub place: u64,
     pub answer: u32,
@@ -36,14 +36,14 @@ pub struct CvRead {
 
 // A MEP-ID alone.
 #[repr(C)]
-#[derive(Drop)]
+#[derive(Clone, Copy)]
 pub struct MepIdRead {
     pub answer: u32,
     pub mep: MepId,
 }
 
 #[repr(C)]
-#[derive(Drop)]
+#[derive(Clone, Copy)]
 pub struct FaultRead {
     pub place: u64,
     pub answer: u32,

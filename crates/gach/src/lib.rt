@@ -1,4 +1,6 @@
 // The associated channel header in front of every message (RFC 6428, 3.3).
+#![tactic(auto)]
+
 ghost use Rattle.std.specs.Prelude.{◌≡◌};
 ghost use Rattle.octets.specs.Choice.{answer};
 ghost use Rattle.gach.specs.Header.{header_refusal, channel_refusal, header_place, channel_place};
@@ -13,7 +15,7 @@ pub const CV_CHANNEL: u16 = 0x0023;
 pub const FAULT_CHANNEL: u16 = 0x0058;
 
 // What a message is by its header, or the refusal.
-#[derive(Drop)]
+#[derive(Clone, Copy)]
 pub enum Kind {
     ContinuityCheck,
     ConnectivityVerification,

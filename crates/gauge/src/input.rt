@@ -14,7 +14,7 @@ use pump::{advance, shift, within};
 
 // The table with what is kept of the label, how many octets of input are there, whether the header is
 // read, and whether nothing that may come changes the numbers.
-#[derive(Drop)]
+#[derive(Clone, Copy)]
 pub struct Gauge {
     pub asked: Asked,
     pub have: usize,

@@ -1,5 +1,7 @@
 // What `spacing` does between its system calls: a capture read piece by piece for the spacing of one
 // label's heard CCs, and the line of its numbers.
+#![tactic(auto)]
+
 mod input;
 mod words;
 

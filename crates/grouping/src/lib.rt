@@ -1,6 +1,8 @@
 // Dual-homing groups on a table: what each group call and each DHC message says and leaves stands in
 // specs/, and that order is kept and nothing else depends on a group in proofs/. By value there is what
 // a search asks of one record.
+#![tactic(auto)]
+
 ghost use Rattle.std.specs.Prelude.{◌≡◌};
 ghost use Rattle.grouping.specs.Grouped.{holds_group};
 

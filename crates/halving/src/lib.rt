@@ -1,9 +1,11 @@
 // A search that halves the candidates, by calling itself, and tells how many it looked at.
+#![tactic(auto)]
+
 ghost use Rattle.std.specs.Prelude.{◌≡◌, ◌+◌, ◌≤◌, min, length};
 ghost use Rattle.halving.specs.Search.{found};
 
 // The place that was found, and how many entries were looked at.
-#[derive(Drop)]
+#[derive(Clone, Copy)]
 pub struct Found {
     pub place: usize,
     pub looked: usize,

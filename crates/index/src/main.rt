@@ -2,11 +2,13 @@
 // log of any length, in constant memory: it is read once, a block of 256 records at a time, and the
 // file is written when all of it was read. Here the system calls are made; all that is done between
 // them is `index_file`'s.
+#![tactic(auto)]
+
 use index_file::Indexing;
 use located::{complain, read_at};
 
 // How far the file is built, and whether a read failed.
-#[derive(Drop)]
+#[derive(Clone, Copy)]
 struct Turned {
     indexing: Indexing,
     failed: bool,

@@ -5,8 +5,8 @@ ghost use Rattle.index_file.specs.Blocks.{further, start_of, onward, over_at, re
 use crate::seeking::place_of;
 use crate::writing::{entry_octets, head_octets};
 use crate::{Entry, Indexing};
-use indexing::IndexHead;
 use call_log::{Ended, at_start, header_fits, read_to};
+use indexing::IndexHead;
 use octets::{least, need, put_octets};
 
 // No reading is past this.

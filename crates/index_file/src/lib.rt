@@ -5,6 +5,8 @@
 // label, and the number of entries. Then the entries, 252 octets each: the clock, the place of the next
 // record in the log, and the label's record, field by field but its group: a log leaves no record that
 // has one. Numbers are big-endian.
+#![tactic(auto)]
+
 mod blocks;
 mod reading;
 mod seeking;
@@ -20,7 +22,7 @@ pub use words::put_answer;
 pub use writing::{entry_octets, head_octets};
 
 // An entry: the label's record and the clock there, and the place of the next record in the log.
-#[derive(Drop)]
+#[derive(Clone, Copy)]
 pub struct Entry {
     pub clock: u64,
     pub place: u64,
@@ -29,7 +31,7 @@ pub struct Entry {
 
 // What is sought in an index file: 0, with the entry that is used and how many were looked at, or a
 // refusal, with neither.
-#[derive(Drop)]
+#[derive(Clone, Copy)]
 pub struct Sought {
     pub entry: Entry,
     pub looked: usize,
@@ -38,7 +40,7 @@ pub struct Sought {
 
 // How far a file is built: what stands before the next entry, the place of the next record of the log
 // there, how many entries there are, the label, 0 or 19, and whether another entry is to be put.
-#[derive(Drop)]
+#[derive(Clone, Copy)]
 pub struct Indexing {
     pub point: Point,
     pub place: u64,

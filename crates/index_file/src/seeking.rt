@@ -7,9 +7,9 @@ ghost use Rattle.index_file.specs.Seeking.{fits_in, judged_of, seek_refusal, no_
 
 use crate::reading::{entry_in, head_in};
 use crate::{Entry, Sought};
+use call_log::{Answer, entry_fits};
 use halving::find;
 use indexing::{IndexHead, answer_at, head_fits};
-use call_log::{Answer, entry_fits};
 use octets::{both, from_place, get_u64, least, need, refuse_if};
 use rules::Report;
 use table::absent;

@@ -4,8 +4,8 @@ ghost use Rattle.capture.specs.Lines.{spaced, seven_numbers};
 ghost use Rattle.capture.specs.Typing.{typed};
 ghost use Rattle.index_file.specs.Words.{refused_line, told_line, answer_line};
 
-use capture::{put_decimal, put_words};
 use call_log::Answer;
+use capture::{put_decimal, put_words};
 use rules::Report;
 
 // A space and a number.

@@ -8,8 +8,8 @@ ghost use Rattle.indexing.specs.Looking.{entry_of, is_open, ended_with, later, e
 
 use crate::asking::{answer_at, ask_refusal};
 use crate::{IndexHead, Search};
-use halving::{Found, find};
 use call_log::{Answer, entry_fits};
+use halving::{Found, find};
 use octets::least;
 use rules::Report;
 use session::Session;

@@ -1,5 +1,7 @@
 // What `why` does between its system calls: the question from its arguments, a capture read piece by
 // piece for the label that is asked about, and the text of the answer.
+#![tactic(auto)]
+
 mod question;
 mod search;
 mod words;

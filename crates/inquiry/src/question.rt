@@ -8,13 +8,13 @@ use octets::{both, from_place, part};
 use rules::Key;
 
 // The number that octets are in decimal, and whether they are one.
-#[derive(Drop)]
+#[derive(Clone, Copy)]
 pub struct Number {
     pub value: u64,
     pub good: bool,
 }
 
-#[derive(Drop)]
+#[derive(Clone, Copy)]
 pub struct Small {
     pub value: u32,
     pub good: bool,
@@ -23,7 +23,7 @@ pub struct Small {
 // What the words have asked so far: about which label, about what (0 not said yet, 1 crossing, 2
 // loss, 3 held back, 4 AIS, 5 LKR), of AIS and LKR with which key, up to which record, and whether
 // that was said. Not good: these words are no question.
-#[derive(Drop)]
+#[derive(Clone, Copy)]
 pub struct Question {
     pub key: Key,
     pub upto: u64,

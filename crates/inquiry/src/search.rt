@@ -13,7 +13,7 @@ use trace::{Asked, Tracing, record_asked, trace};
 
 // The table with what was noted, how many octets of input are there, whether the header is read,
 // whether nothing that may come changes the answer, and whether the header is bad.
-#[derive(Drop)]
+#[derive(Clone, Copy)]
 pub struct Search {
     pub asked: Asked,
     pub have: usize,

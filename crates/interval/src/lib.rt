@@ -1,5 +1,7 @@
 // The spacing of heard CCs: what a record of a capture is to the label that is asked about, by value,
 // and what is kept of the label behind it: its last heard CC and the account of its spacing errors.
+#![tactic(auto)]
+
 ghost use Rattle.std.specs.Prelude.{◌≡◌, cond};
 ghost use Rattle.interval.specs.Records.{cc_event, message_event, own_event, record_event};
 ghost use Rattle.interval.specs.Pacing.{hearing, paced_by, at_rest};
@@ -12,7 +14,7 @@ use session::Session;
 
 // What an accepted call is to the label: a CC heard at a reading under a period; the end of an
 // opening or of a stretch unlocked, whose last CC is forgotten; or nothing.
-#[derive(Drop)]
+#[derive(Clone, Copy)]
 pub enum Event {
     Nothing,
     Forgotten,
@@ -20,7 +22,7 @@ pub enum Event {
 }
 
 // The account so far, and the reading of the last heard CC, where there is one.
-#[derive(Drop)]
+#[derive(Clone, Copy)]
 pub struct Pace {
     pub account: Account,
     pub reading: u64,

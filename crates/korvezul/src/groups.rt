@@ -21,7 +21,7 @@ use table::Head;
 
 // A group to set, and the party whose call it is.
 #[repr(C)]
-#[derive(Drop)]
+#[derive(Clone, Copy)]
 pub struct GroupFor {
     pub settings: GroupSettings,
     pub party: u32,
@@ -29,7 +29,7 @@ pub struct GroupFor {
 
 // The group of an ID in the party whose call it is.
 #[repr(C)]
-#[derive(Drop)]
+#[derive(Clone, Copy)]
 pub struct GroupName {
     pub party: u32,
     pub id: u32,
@@ -37,7 +37,7 @@ pub struct GroupName {
 
 // The AC of a group: 0 standby, any other number active.
 #[repr(C)]
-#[derive(Drop)]
+#[derive(Clone, Copy)]
 pub struct AcOf {
     pub group: GroupName,
     pub ac: u8,
@@ -45,7 +45,7 @@ pub struct AcOf {
 
 // What asking answers: 0 and the three numbers of the group, or a refusal and three noughts.
 #[repr(C)]
-#[derive(Drop)]
+#[derive(Clone, Copy)]
 pub struct GroupAnswer {
     pub answer: u32,
     pub group: GroupReport,

@@ -2,6 +2,8 @@
 // set of occupied places. Each call but a tick names its party, and on another party's label it is as on
 // one that is not open. Each call is one step of the table; a refusal changes nothing. No call asks
 // anything of its caller.
+#![tactic(auto)]
+
 mod answers;
 mod groups;
 mod logs;
@@ -34,7 +36,7 @@ use table::Head;
 // A report's answer, numbers alone so that it can be returned to any host: 0 and the seven numbers
 // of the report, or a refusal and seven noughts.
 #[repr(C)]
-#[derive(Drop)]
+#[derive(Clone, Copy)]
 pub struct ReportAnswer {
     pub answer: u32,
     pub state: u8,
@@ -48,14 +50,14 @@ pub struct ReportAnswer {
 
 // Settings to open with, and the party whose call it is.
 #[repr(C)]
-#[derive(Drop)]
+#[derive(Clone, Copy)]
 pub struct OpeningFor {
     pub settings: Settings,
     pub party: u32,
 }
 
 // Clock and set of an empty table, and the answer.
-#[derive(Drop)]
+#[derive(Clone, Copy)]
 pub struct Begun {
     pub head: Head,
     pub answer: u32,

@@ -9,7 +9,7 @@ use configuration::ConfigurationAnswer;
 
 // 0 and the two numbers, or a refusal and noughts.
 #[repr(C)]
-#[derive(Drop)]
+#[derive(Clone, Copy)]
 pub struct ConfigurationRead {
     pub answer: u32,
     pub discriminator: u32,

@@ -1,4 +1,6 @@
 // How late, exactly, asked of a whole capture in one slice: the five numbers, or 21.
+#![tactic(auto)]
+
 ghost use Rattle.std.specs.Prelude.{◌≡◌};
 ghost use Rattle.cause.specs.Pasts.{past_of};
 ghost use Rattle.interval.specs.Spacing.{spacing_of};

@@ -1,5 +1,7 @@
 // Why is this so, asked of a live table. A table has no record numbers: it knows the reading of the
 // message that accounts for a thing, how old that is at the clock, and the end.
+#![tactic(auto)]
+
 mod answer;
 mod known;
 
@@ -12,7 +14,7 @@ use table::Head;
 // is a crossing, 2 a loss, 3 an alarm held back, 4 the condition of the key. Any other number stands for
 // nothing.
 #[repr(C)]
-#[derive(Drop)]
+#[derive(Clone, Copy)]
 pub struct LiveQuestion {
     pub circuit: Circuit,
     pub key: Key,
@@ -22,7 +24,7 @@ pub struct LiveQuestion {
 // Clock and set as they are; the reading of the message that accounts for the thing, its age at the
 // clock and the end, or three noughts beside a refusal; and the answer.
 #[repr(C)]
-#[derive(Drop)]
+#[derive(Clone, Copy)]
 pub struct LiveCause {
     pub head: Head,
     pub reading: u64,
@@ -32,7 +34,7 @@ pub struct LiveCause {
 }
 
 // What is answered, and the place of the record that was asked.
-#[derive(Drop)]
+#[derive(Clone, Copy)]
 pub struct LiveStep {
     pub outcome: LiveCause,
     pub place: usize,

@@ -1,18 +1,20 @@
 // A file read from a place on, as far as a lent buffer reaches.
+#![tactic(auto)]
+
 ghost use Rattle.std.specs.Prelude.{◌≡◌};
 ghost use Rattle.located.specs.Turns.{read_behind, failed_behind};
 
 use libc::SEEK_END;
 
 // How many octets were read, and whether a read failed.
-#[derive(Drop)]
+#[derive(Clone, Copy)]
 pub struct Got {
     pub size: usize,
     pub failed: bool,
 }
 
 // How many octets a file has, and whether that is not known.
-#[derive(Drop)]
+#[derive(Clone, Copy)]
 pub struct Size {
     pub octets: u64,
     pub failed: bool,
@@ -33,7 +35,7 @@ fn further(place: u64, n: usize) -> i64 {
 }
 
 // What a read is to what was read so far, and whether another one is to be made.
-#[derive(Drop)]
+#[derive(Clone, Copy)]
 struct Turn {
     size: usize,
     go: bool,

@@ -1,5 +1,7 @@
 // One record of a log, written into a lent buffer: what was called, its arguments, and the answer that
 // it was given. Who appends what it did has a log that can be asked.
+#![tactic(auto)]
+
 mod calls;
 mod openings;
 
@@ -21,7 +23,7 @@ pub fn write_header(b: &mut [u8]) -> u32
 // What was called on which label at which reading, by the kinds of a capture, and what it was answered.
 // Where a call has no label or brings no reading, the number is not read.
 #[repr(C)]
-#[derive(Drop)]
+#[derive(Clone, Copy)]
 pub struct Logged {
     pub time: u64,
     pub label: u32,

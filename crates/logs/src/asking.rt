@@ -1,6 +1,6 @@
 // What a line asks, and the answer from the index of the label that it asks about, as text.
-use indexing::{IndexHead, answer_at, ask_refusal, begin_fill, fill_numbers};
 use call_log::{Answer, at_start, read_to};
+use indexing::{IndexHead, answer_at, ask_refusal, begin_fill, fill_numbers};
 use rules::Report;
 use session::Session;
 use stored::put_text;
@@ -9,7 +9,7 @@ use stored::put_text;
 const NEVER: u64 = 18_446_744_073_709_551_615;
 
 // A number in decimal, and the place behind the octet that ends it.
-#[derive(Drop)]
+#[derive(Clone, Copy)]
 pub(crate) struct Taken {
     pub(crate) value: u64,
     pub(crate) end: usize,

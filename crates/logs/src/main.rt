@@ -4,6 +4,8 @@
 //
 // It asks by the parts of `indexing`: `build` and `ask` borrow a row of records, and code that lends one
 // needs a walk by hand. The answers were worked out by hand, and the second program gives them too.
+#![tactic(auto)]
+
 mod asking;
 
 use stored::say;

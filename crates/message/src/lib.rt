@@ -1,6 +1,8 @@
 // A message of any of the three kinds that a session takes. Each kind has its own reader; what they
 // read together, and what a DHC message is refused with, is said by the definitions alone, and where a
 // message goes wrong by `place_of`.
+#![tactic(auto)]
+
 ghost use Rattle.std.specs.Prelude.{◌≡◌};
 ghost use Rattle.message.specs.Message.{message_place};
 
@@ -11,7 +13,7 @@ use fault::Fault;
 use gach::{CC_CHANNEL, CV_CHANNEL, header_place};
 use octets::get_u16;
 
-#[derive(Drop)]
+#[derive(Clone, Copy)]
 pub enum Message {
     ContinuityCheck(Packet),
     ConnectivityVerification(Packet, MepId),

@@ -1,5 +1,7 @@
 // The record of one label, kept by itself: what an accepted record of a log makes of it, without a
 // table. A record whose label is 0 is none.
+#![tactic(auto)]
+
 ghost use Rattle.std.specs.Prelude.{◌≡◌};
 ghost use Rattle.session.specs.Live.{received_record};
 ghost use Rattle.own.specs.Records.{effect_by, own_by, record_after};

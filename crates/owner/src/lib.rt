@@ -1,4 +1,6 @@
 // A table by value, with a row of 64 records of its own, lent piece by piece to the feed.
+#![tactic(auto)]
+
 ghost use Rattle.std.specs.Prelude.{◌≡◌};
 ghost use Rattle.feed.specs.Feeding.{feed_of};
 
@@ -6,7 +8,7 @@ use feed::{Fed, feed_row};
 use session::Session;
 
 // A table by value: its own row, and how far it is fed.
-#[derive(Drop)]
+#[derive(Clone, Copy)]
 pub struct Feeding {
     pub row: [Session; 64],
     pub fed: Fed,

@@ -5,7 +5,7 @@ ghost use Rattle.pace.specs.Pacing.{pace_of};
 use crate::{Pacing, pace_row};
 use session::Session;
 
-#[derive(Drop)]
+#[derive(Clone, Copy)]
 pub struct Asked {
     pub row: [Session; 64],
     pub pacing: Pacing,

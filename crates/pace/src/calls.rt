@@ -15,7 +15,7 @@ use session::Session;
 use table::Head;
 
 // Clock and set afterwards, the answer, and what is kept of the label where that is 0.
-#[derive(Drop)]
+#[derive(Clone, Copy)]
 pub struct Paced {
     pub head: Head,
     pub answer: u32,

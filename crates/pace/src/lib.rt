@@ -1,6 +1,8 @@
 // A capture read for the spacing of one label's heard CCs: each record is a call on the lent row, as a
 // feed makes it, and what it is to the label is counted. 26 is asked once, as in a feed. An empty
 // buffer is handed through: loops of one shape share one proof.
+#![tactic(auto)]
+
 mod asked;
 mod calls;
 mod records;
@@ -22,7 +24,7 @@ use session::Session;
 
 // How far a table is fed, the label that is asked about, and what is kept of it: its last heard CC and
 // the account of its spacing errors.
-#[derive(Drop)]
+#[derive(Clone, Copy)]
 pub struct Pacing {
     pub fed: Fed,
     pub pace: Pace,

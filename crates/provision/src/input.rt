@@ -5,7 +5,7 @@ ghost use Rattle.libc.specs.Io.{Moved};
 use libc::STDIN_FILENO;
 
 // How many octets are there, whether another read is to be made, and where not whether all was read.
-#[derive(Drop)]
+#[derive(Clone, Copy)]
 pub struct Input {
     pub have: usize,
     pub go: bool,

@@ -1,5 +1,7 @@
 // What the provisioning people ask: LSP Ping records from standard input, the line of the sessions file
 // that they give to standard output. What a record does not carry comes from the arguments.
+#![tactic(auto)]
+
 mod input;
 mod line;
 mod words;

@@ -3,7 +3,7 @@ use octets::get_u8;
 
 // The places of name, label and MEP-IDs among the arguments, 0 for one that is not there; the type of
 // BFD Authentication. Not good: these words are no question.
-#[derive(Drop)]
+#[derive(Clone, Copy)]
 pub struct Words {
     pub name: usize,
     pub label: usize,
@@ -15,7 +15,7 @@ pub struct Words {
 }
 
 // A number of 16 bits, or none.
-#[derive(Drop)]
+#[derive(Clone, Copy)]
 pub struct Small {
     pub value: u16,
     pub good: bool,

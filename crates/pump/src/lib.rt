@@ -1,5 +1,7 @@
 // The core of `watch`: a capture read in whatever pieces it comes, its text written in whatever
 // pieces it is taken. All but the two system calls is here, by value.
+#![tactic(auto)]
+
 mod failures;
 mod moving;
 mod turns;
@@ -14,7 +16,7 @@ use turns::{begin, feed_on, is_ready};
 
 // The table, how many octets of input are there, which octets of output are still to be written,
 // and whether the header is read, the input has ended, and the text is over.
-#[derive(Drop)]
+#[derive(Clone, Copy)]
 pub struct Pump {
     pub table: Feeding,
     pub have: usize,
@@ -26,7 +28,7 @@ pub struct Pump {
 }
 
 // What is wanted next: one read, one write, or nothing more.
-#[derive(Drop)]
+#[derive(Clone, Copy)]
 pub enum Wanted {
     Read,
     Write,

@@ -4,7 +4,7 @@ use inquiry::{Question, Search};
 use stored::{further, put_text};
 
 // The search, and how many octets of the capture have come.
-#[derive(Drop)]
+#[derive(Clone, Copy)]
 struct Asking {
     search: Search,
     came: usize,

@@ -4,12 +4,14 @@
 // question and the text are printed.
 //
 // The answers were worked out by hand (the .txt beside them), and the second program gives them too.
+#![tactic(auto)]
+
 mod asking;
 
 use stored::say;
 
 // How far the answers are as expected, and whether all so far were.
-#[derive(Drop)]
+#[derive(Clone, Copy)]
 struct Held {
     at: usize,
     good: bool,

@@ -1,5 +1,7 @@
 // Why is this so, asked of a whole capture in one slice: the cause in numbers, where the program
 // `why` tells it in words.
+#![tactic(auto)]
+
 ghost use Rattle.std.specs.Prelude.{◌≡◌, ◌<◌, ◌^◌};
 ghost use Rattle.cause.specs.Causes.{cause_of};
 ghost use Rattle.cause.specs.FromMarks.{said, why_from};

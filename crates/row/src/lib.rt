@@ -1,4 +1,6 @@
 // The lent row: its records taken out and stored, the scan over it, the search in it, and the calls.
+#![tactic(auto)]
+
 mod finding;
 mod known;
 

@@ -1,5 +1,7 @@
 // The numbers and tables of the rules paper: what both the meaning of a history and the records need
 // and neither owns. Every function is over numbers, marks and small values.
+#![tactic(auto)]
+
 mod classes;
 mod diagnostics;
 mod keys;
@@ -25,7 +27,7 @@ pub use ranges::settings_fit;
 pub use times::{detection_time, is_late, is_past, is_within, lifetime_of};
 
 // AdminDown is locked; NeighborDown is DOWN by a received state, remembered until DOWN is left.
-#[derive(Drop)]
+#[derive(Clone, Copy)]
 pub enum State {
     AdminDown,
     Down,
@@ -35,7 +37,7 @@ pub enum State {
 }
 
 // What moves a session: a received state, a loss, LDI, LKR, a crossed message.
-#[derive(Drop)]
+#[derive(Clone, Copy)]
 pub enum Input {
     GotAdminDown,
     GotDown,
@@ -49,7 +51,7 @@ pub enum Input {
 
 // A session of its own for both directions, or of two sessions, one for each direction, the one that sends
 // or the one that only answers (RFC 6428, 3.7).
-#[derive(Drop)]
+#[derive(Clone, Copy)]
 pub enum Mode {
     Coordinated,
     Source,
@@ -59,7 +61,7 @@ pub enum Mode {
 // Numbers alone, so that a record that holds them can be lent by any caller. `followlink` and `followlock` are
 // the marks follow link-down and follow lock, 0 or 1; `mode` is 0 coordinated, 1 source, 2 sink.
 #[repr(C)]
-#[derive(Drop)]
+#[derive(Clone, Copy)]
 pub struct Settings {
     pub own: MepId,
     pub expected: MepId,
@@ -73,7 +75,7 @@ pub struct Settings {
 
 // A label, and the party whose call names it.
 #[repr(C)]
-#[derive(Drop)]
+#[derive(Clone, Copy)]
 pub struct Circuit {
     pub label: u32,
     pub party: u32,
@@ -82,7 +84,7 @@ pub struct Circuit {
 // What tells one condition from another: type 1 AIS or 2 LKR, an IF_ID, and a Global_ID. `present` is 1
 // where there is an IF_ID, `carrier` 1 where there is a Global_ID, each 0 where there is none.
 #[repr(C)]
-#[derive(Drop)]
+#[derive(Clone, Copy)]
 pub struct Key {
     pub node: u32,
     pub interface: u32,
@@ -93,7 +95,7 @@ pub struct Key {
 }
 
 // What a message is to the session of its label.
-#[derive(Drop)]
+#[derive(Clone, Copy)]
 pub enum Received {
     CrossedMessage,
     HeardCc(Packet),
@@ -102,7 +104,7 @@ pub enum Received {
 }
 
 // The seven numbers of a report.
-#[derive(Drop)]
+#[derive(Clone, Copy)]
 pub struct Report {
     pub state: u8,
     pub crossing: u8,

@@ -1,5 +1,7 @@
 // A capture of at most 65,536 octets from standard input, as one slice: its text, and what a buffer
 // is answered that is one octet too short, and one that just fits.
+#![tactic(auto)]
+
 ghost use Rattle.io.specs.Counts.{IsPrefixLen};
 
 use libc::{STDIN_FILENO, STDOUT_FILENO};

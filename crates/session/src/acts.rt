@@ -19,7 +19,7 @@ use octets::{bit, either, get_u16, get_u32, or_else};
 use rules::Input;
 
 // What a BFD message can change of a record: of its group, the PW alone.
-#[derive(Drop)]
+#[derive(Clone, Copy)]
 pub struct Live {
     pub timed: u64,
     pub crossed: u64,
@@ -29,14 +29,14 @@ pub struct Live {
     pub pw: u8,
 }
 
-#[derive(Drop)]
+#[derive(Clone, Copy)]
 pub struct Acted {
     pub live: Live,
     pub answer: u32,
 }
 
 // What a fault message can change of a record: of its group, the PW alone.
-#[derive(Drop)]
+#[derive(Clone, Copy)]
 pub struct Faulted {
     pub places: Conditions,
     pub answer: u32,

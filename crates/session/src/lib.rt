@@ -1,5 +1,7 @@
 // One session's record, by value: what it shows at a clock, what each accepted call does to it, and
 // when it is sound. Every step takes the session's own settling (TIMER) with it.
+#![tactic(auto)]
+
 mod acts;
 mod queries;
 mod soundness;
@@ -20,7 +22,7 @@ pub use steps::{cc_written, locked_at, opened_at, unlocked_at};
 // What the last heard CC gave: remote discriminator (0 is none), multiplier, diagnostic, and 1 where
 // a reply to a poll is owed.
 #[repr(C)]
-#[derive(Drop)]
+#[derive(Clone, Copy)]
 pub struct Peer {
     pub remote: u32,
     pub multiplier: u8,
@@ -33,7 +35,7 @@ pub struct Peer {
 // state (0 to 3 as the rules paper has them, 4 for DOWN by a received state), 1 where a crossed
 // message came, and the dual-homing group of which this is the service PW.
 #[repr(C)]
-#[derive(Drop)]
+#[derive(Clone, Copy)]
 pub struct Session {
     pub timed: u64,
     pub crossed: u64,

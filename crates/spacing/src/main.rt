@@ -1,6 +1,8 @@
 // How late, exactly: the label from the argument, a capture from standard input, the line of its
 // spacing to standard output. Any length of input, in whatever pieces it comes, in constant memory.
 // Here the system calls are made; all that is done between them is `gauge`'s.
+#![tactic(auto)]
+
 ghost use Rattle.std.specs.Prelude.{◌≡◌, false, ◌≤◌, length};
 ghost use Rattle.libc.specs.Io.{Moved};
 ghost use Rattle.capture.specs.Typing.{typed};
@@ -15,7 +17,7 @@ use octets::both;
 
 // What is held after a read, whether another one is to be made, and where not whether the numbers are
 // known.
-#[derive(Drop)]
+#[derive(Clone, Copy)]
 struct Looked {
     gauge: Gauge,
     go: bool,

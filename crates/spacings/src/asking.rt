@@ -4,7 +4,7 @@ use gauge::Gauge;
 use stored::{further, put_text};
 
 // What is held, and how many octets of the capture have come.
-#[derive(Drop)]
+#[derive(Clone, Copy)]
 struct Asking {
     gauge: Gauge,
     came: usize,

@@ -4,6 +4,8 @@
 // and what came are printed.
 //
 // The lines were worked out by hand (the .txt beside them), and the second program gives them too.
+#![tactic(auto)]
+
 mod asking;
 
 use stored::say;

@@ -1,6 +1,8 @@
 // What each call answers and does, once it is known whether the table is in order and where the
 // label stands: by value, on the one record that it concerns. What the lent row adds is where that
 // record comes from and where it goes.
+#![tactic(auto)]
+
 mod arrived;
 mod asked;
 mod decision;
@@ -16,7 +18,7 @@ use rules::{Report, Settings};
 use table::Head;
 
 // The calls that bring numbers alone: of a buffer its length goes in.
-#[derive(Drop)]
+#[derive(Clone, Copy)]
 pub enum Request {
     Tick(u64),
     Close(u32, u64),
@@ -28,7 +30,7 @@ pub enum Request {
 }
 
 // An open.
-#[derive(Drop)]
+#[derive(Clone, Copy)]
 pub struct Opening {
     pub settings: Settings,
     pub reading: u64,
@@ -36,7 +38,7 @@ pub struct Opening {
 
 // A message that arrives at a reading: clock and set, the place of its label and whether the table
 // is in order, and where the message lies among the octets that are lent.
-#[derive(Drop)]
+#[derive(Clone, Copy)]
 pub struct Arrival {
     pub head: Head,
     pub reading: u64,
@@ -47,7 +49,7 @@ pub struct Arrival {
 }
 
 // What a call tells beside its number: the report of a report, the octets of a write.
-#[derive(Drop)]
+#[derive(Clone, Copy)]
 pub struct Told {
     pub report: Report,
     pub cc: [u8; 28],
@@ -55,7 +57,7 @@ pub struct Told {
 }
 
 // What comes of a call: clock and set afterwards, what it tells, the answer.
-#[derive(Drop)]
+#[derive(Clone, Copy)]
 pub struct Outcome {
     pub head: Head,
     pub told: Told,
@@ -63,7 +65,7 @@ pub struct Outcome {
 }
 
 // The outcome, and the place that is stored to; past the row's end nothing is stored.
-#[derive(Drop)]
+#[derive(Clone, Copy)]
 pub struct Stepped {
     pub outcome: Outcome,
     pub place: usize,

@@ -4,7 +4,7 @@ ghost use Rattle.io.specs.Counts.{IsPrefixLen};
 use crate::texts::put_text;
 
 // How many octets of a file were read, and whether they are all of it.
-#[derive(Drop)]
+#[derive(Clone, Copy)]
 pub struct Content {
     pub size: usize,
     pub whole: bool,

@@ -1,5 +1,7 @@
 // What the programs over stored captures share: files by name and ending, a capture taken in steps,
 // text in buffers, and what they print.
+#![tactic(auto)]
+
 mod files;
 mod texts;
 

@@ -1,4 +1,6 @@
 // What the programs do about a system call that failed, and a text written write by write.
+#![tactic(auto)]
+
 mod writing;
 
 use libc::{EINTR, STDERR_FILENO};

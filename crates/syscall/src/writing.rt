@@ -6,7 +6,7 @@ use crate::is_again;
 use libc::STDOUT_FILENO;
 
 // The place behind what was written, and whether another write is to be made.
-#[derive(Drop)]
+#[derive(Clone, Copy)]
 struct Written {
     from: usize,
     go: bool,

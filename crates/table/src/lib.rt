@@ -1,4 +1,6 @@
 // The table beside its row: the clock, and the 64-bit set of occupied places.
+#![tactic(auto)]
+
 mod occupied;
 
 ghost use Rattle.std.specs.Prelude.{◌≡◌};
@@ -11,7 +13,7 @@ use session::Session;
 
 // What is lent beside the row.
 #[repr(C)]
-#[derive(Drop)]
+#[derive(Clone, Copy)]
 pub struct Head {
     pub clock: u64,
     pub occupied: u64,

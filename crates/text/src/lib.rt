@@ -1,4 +1,6 @@
 // The text of a whole capture, put into a lent buffer.
+#![tactic(auto)]
+
 mod lines;
 
 ghost use Rattle.std.specs.Prelude.{◌≡◌, length};
@@ -12,14 +14,14 @@ use lines::put_lines;
 use octets::write_octets;
 
 // The answer, and how many octets the text has.
-#[derive(Drop)]
+#[derive(Clone, Copy)]
 pub struct Ran {
     pub answer: u32,
     pub written: usize,
 }
 
 // What fits so far, and how many octets it has.
-#[derive(Drop)]
+#[derive(Clone, Copy)]
 struct Count {
     fits: bool,
     octets: usize,

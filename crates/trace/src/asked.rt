@@ -8,14 +8,14 @@ use crate::{Tracing, trace_row};
 use row::{find, record_at};
 use session::Session;
 
-#[derive(Drop)]
+#[derive(Clone, Copy)]
 pub struct Asked {
     pub row: [Session; 64],
     pub tracing: Tracing,
 }
 
 // The record of the label, where it is open.
-#[derive(Drop)]
+#[derive(Clone, Copy)]
 pub struct Found {
     pub session: Session,
     pub there: bool,

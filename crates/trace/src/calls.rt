@@ -13,7 +13,7 @@ use session::Session;
 use table::Head;
 
 // Clock and set afterwards, the answer, and what is noted where that is 0.
-#[derive(Drop)]
+#[derive(Clone, Copy)]
 pub struct Traced {
     pub head: Head,
     pub answer: u32,

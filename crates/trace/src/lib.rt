@@ -1,6 +1,8 @@
 // A capture read for one label: each record is a call on the lent row, as a feed makes it, and notes
 // what accounts for what its session shows. The octets of the last crossed message are kept in a lent
 // buffer. 26 is asked once, as in a feed.
+#![tactic(auto)]
+
 mod asked;
 mod calls;
 mod records;
@@ -22,7 +24,7 @@ use session::Session;
 
 // How far a table is fed, after how many records it is asked, the label that is asked about, and the
 // marks of its session.
-#[derive(Drop)]
+#[derive(Clone, Copy)]
 pub struct Tracing {
     pub fed: Fed,
     pub upto: u64,

@@ -2,6 +2,8 @@
 // output. Any length of input, in whatever pieces it comes, in constant memory: one buffer for input,
 // one for output, and a core by value that says what is wanted next. Here the two system calls are
 // made, and nothing else.
+#![tactic(auto)]
+
 ghost use Rattle.std.specs.Prelude.{ℕ, ◌≡◌, true, false, List, length};
 ghost use Rattle.libc.specs.Io.{Moved};
 ghost use Rattle.pump.specs.declared.Wanted.TheVariants.{Read, Write};
@@ -13,7 +15,7 @@ use pump::{Pump, Wanted};
 
 // The core after a system call, whether the call moved anything or found the end, and whether it
 // goes on.
-#[derive(Drop)]
+#[derive(Clone, Copy)]
 struct Called {
     core: Pump,
     moved: bool,

@@ -1,6 +1,8 @@
 // What the desk asks: the question from the arguments, a capture from standard input, the answer to
 // standard output. Any length of input, in whatever pieces it comes, in constant memory. Here the
 // system calls are made; all that is done between them is `inquiry`'s.
+#![tactic(auto)]
+
 ghost use Rattle.std.specs.Prelude.{◌≡◌, false, ◌≤◌, length};
 ghost use Rattle.libc.specs.Io.{Moved};
 ghost use Rattle.capture.specs.Typing.{typed};
@@ -13,7 +15,7 @@ use libc::STDIN_FILENO;
 
 // The search after a read, whether another one is to be made, and where not whether the answer is
 // known.
-#[derive(Drop)]
+#[derive(Clone, Copy)]
 struct Looked {
     search: Search,
     go: bool,

@@ -1,0 +1,15 @@
+use Rattle.bfd.specs.Reception.{your_refusal}
+use Rattle.octets.proofs.Chain.{tests}
+use Rattle.bfd.proofs.read.your_refusal.Goals as goal
+
+pub returns-then-your-ne0 : goal.returns-then-your-ne0
+unfolding your_refusal
+returns-then-your-ne0 c = search tests
+
+pub returns-then-state-lt2 : goal.returns-then-state-lt2
+unfolding your_refusal
+returns-then-state-lt2 c = search tests
+
+pub returns : goal.returns
+unfolding your_refusal
+returns c = search tests

@@ -1,0 +1,11 @@
+use borrow.Author.Rules.{rules}
+use Rattle.capture.specs.Lines.{placed_line}
+use Rattle.capture.specs.Typing.{Put}
+use Rattle.capture.proofs.Typing.{then, then-last}
+use Rattle.capture.proofs.lines.put_placed.Goals as goal
+
+pub returns : goal.returns
+unfolding placed_line
+returns c = let a = c.args in
+    let p : Put = record { buffer = a.out.now; at = a.at } in
+    then-last p _ 10 (then p _ _ c.put_answer-a.ensures c.put_spaced-b.ensures) c.push.ensures

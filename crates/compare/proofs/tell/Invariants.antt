@@ -1,0 +1,11 @@
+-- `compare::tell` is safe and ends: the measure is the number of turns that are left.
+use mathlib.Core.Path.{◌≡◌, refl}
+use borrow.Author.Rules.{rules}
+use lib.ListN.{length}
+use Rattle.compare.proofs.tell.Given as goal
+
+abbrev pub invariant-loop-turns : goal.invariant-loop-turns
+invariant-loop-turns l = (length l.first ≡ length l.initial.first) × (length l.second ≡ length l.initial.second)
+
+abbrev pub decreases-loop-turns : goal.decreases-loop-turns
+decreases-loop-turns l = l.turns

@@ -1,0 +1,19 @@
+use borrow.Author.Rules.{rules}
+use Rattle.capture.specs.Typing.{Put, typed}
+use Rattle.capture.proofs.Typing.{then, typed-none}
+use borrow.Author.Tests.{not-true, not-false}
+use mathlib.Core.Path.{sym, ap, ◌∙◌}
+use mathlib.Core.Bool.{Bool}
+use Rattle.comparison.specs.Words.{mark_line}
+use Rattle.comparison.proofs.words.put_mark.Goals as goal
+
+pub returns-then-not-test : goal.returns-then-not-test
+returns-then-not-test c = let s = c.args in
+    let p : Put = record { buffer = s.out.now; at = s.at } in
+    typed-none p ∙ ap (λ (b : Bool). typed p (mark_line s.n b s.code)) (sym (not-true s.test c.if-not-test.true))
+
+pub returns : goal.returns
+returns c = let s = c.args in
+    let p : Put = record { buffer = s.out.now; at = s.at } in
+    then p _ _ c.put_decimal-next.ensures c.put_code.ensures
+    ∙ ap (λ (b : Bool). typed p (mark_line s.n b s.code)) (sym (not-false s.test c.if-not-test.false))

@@ -1,0 +1,7 @@
+use Rattle.conditions.specs.Standing.{count_at}
+use borrow.Author.Rules.{rules}
+use Rattle.conditions.proofs.standing.count_at.Goals as goal
+
+pub returns : goal.returns
+unfolding count_at
+returns c = rw (c.bit-d.ensures.0, c.does_stand-4.ensures, c.bit-c.ensures.0, c.does_stand-3.ensures, c.bit-b.ensures.0, c.does_stand-2.ensures, c.bit-a.ensures.0, c.does_stand.ensures)

@@ -1,0 +1,56 @@
+use Rattle.cv.specs.MepId.{head_octets}
+use Rattle.octets.proofs.Numbers.{octet-fits}
+use borrow.Author.Rules.{rules}
+use Rattle.cv.proofs.mep_id.head_octets.Goals as goal
+
+pub overflow_cast-result : goal.overflow_cast-result
+overflow_cast-result c = octet-fits _
+
+pub overflow_cast-result-2 : goal.overflow_cast-result-2
+overflow_cast-result-2 c = octet-fits _
+
+pub overflow_cast-result-3 : goal.overflow_cast-result-3
+overflow_cast-result-3 c = octet-fits _
+
+pub overflow_cast-result-4 : goal.overflow_cast-result-4
+overflow_cast-result-4 c = octet-fits _
+
+pub overflow_cast-result-5 : goal.overflow_cast-result-5
+overflow_cast-result-5 c = octet-fits _
+
+pub overflow_cast-result-6 : goal.overflow_cast-result-6
+overflow_cast-result-6 c = octet-fits _
+
+pub overflow_cast-result-7 : goal.overflow_cast-result-7
+overflow_cast-result-7 c = octet-fits _
+
+pub overflow_cast-result-8 : goal.overflow_cast-result-8
+overflow_cast-result-8 c = octet-fits _
+
+pub overflow_cast-result-9 : goal.overflow_cast-result-9
+overflow_cast-result-9 c = octet-fits _
+
+pub overflow_cast-result-10 : goal.overflow_cast-result-10
+overflow_cast-result-10 c = octet-fits _
+
+pub overflow_cast-result-11 : goal.overflow_cast-result-11
+overflow_cast-result-11 c = octet-fits _
+
+pub overflow_cast-result-12 : goal.overflow_cast-result-12
+overflow_cast-result-12 c = octet-fits _
+
+pub overflow_cast-result-13 : goal.overflow_cast-result-13
+overflow_cast-result-13 c = octet-fits _
+
+pub overflow_cast-result-14 : goal.overflow_cast-result-14
+overflow_cast-result-14 c = octet-fits _
+
+pub overflow_cast-result-15 : goal.overflow_cast-result-15
+overflow_cast-result-15 c = octet-fits _
+
+pub overflow_cast-result-16 : goal.overflow_cast-result-16
+overflow_cast-result-16 c = octet-fits _
+
+pub returns : goal.returns
+unfolding head_octets
+returns c = rw c.value_length-length.ensures

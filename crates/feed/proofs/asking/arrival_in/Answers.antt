@@ -1,0 +1,5 @@
+use borrow.Author.Rules.{rules}
+use Rattle.feed.proofs.asking.arrival_in.Goals as goal
+
+pub returns : goal.returns
+returns c = rw c.body_from-from.ensures

@@ -1,0 +1,5 @@
+use borrow.Author.Rules.{rules}
+use Rattle.feed.proofs.records.fed_on.Goals as goal
+
+pub returns : goal.returns
+returns c = rw (c.number_after.ensures, c.behind.ensures)

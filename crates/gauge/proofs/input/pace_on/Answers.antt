@@ -1,0 +1,26 @@
+use mathlib.Core.Path.{sym}
+use lib.Seq.{length-take-le}
+use borrow.Author.Rules.{rules}
+use Rattle.gauge.proofs.OneRead.{moved-fits, paced}
+use Rattle.gauge.proofs.input.pace_on.Goals as goal
+
+-- what is left fits into the buffer that it was moved in
+pub slice_bounds-next_record-end : goal.slice_bounds-next_record-end
+slice_bounds-next_record-end c =    
+    
+    moved-fits _ _ _ _ _ c.within-n.ensures.fits c.shift-have.ensures
+
+pub slice_bounds-next_record-end-2 : goal.slice_bounds-next_record-end-2
+slice_bounds-next_record-end-2 c =    
+    
+    sym (length-take-le c.shift-have.result c.shift-have.new.0 (moved-fits _ _ _ _ _ c.within-n.ensures.fits c.shift-have.ensures))
+
+pub returns : goal.returns
+returns c =    
+    
+    
+    let a = c in
+    let w = a in
+    let s = w.args in
+    paced s.g s.buf.now w.within.result w.within.ensures a.rewind.result c.pace-asked.result a.rewind.ensures c.pace-asked.ensures
+    c.shift-have.result c.shift-have.new.0 c.shift-have.ensures c.next_record.result c.next_record.ensures c.cannot_mend-over.result c.cannot_mend-over.ensures

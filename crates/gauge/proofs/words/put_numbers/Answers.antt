@@ -1,0 +1,27 @@
+use mir.Syntax.{w64}
+use mir.Val.{SFits}
+use borrow.Author.Rules.{rules}
+use Rattle.capture.specs.Typing.{Put}
+use Rattle.capture.proofs.Typing.{then}
+use Rattle.gauge.specs.Words.{numbers_line}
+use Rattle.gauge.proofs.Signs.{as-bound, as_sums}
+use Rattle.gauge.proofs.words.put_numbers.Goals as goal
+
+least_fits : (c : tie.After-struct-told) → SFits w64 c.before.before.before.before.before.before.before.args.s.least
+least_fits c = search rules
+
+greatest-fits : (c : tie.After-struct-told2) → SFits w64 c.before.before.before.before.before.before.before.before.before.before.before.before.args.s.greatest
+greatest-fits c = search rules
+
+sum_fits : (c : tie.After-struct-told3) → SFits w64 c.before.before.before.before.before.before.before.before.before.before.before.before.before.before.before.before.before.args.s.sum
+sum_fits c = search rules
+
+pub returns : goal.returns
+unfolding numbers_line
+returns c =    
+    
+    
+    let w = c in
+    let s = w.args in
+    let p : Put = record { buffer = s.out.now; at = s.at } in
+    then p _ _ (then p _ _ (then p _ _ w.put-decimal.ensures (as-bound s.s.least (least_fits c) _ _ s.s.paired c.put_bound-b.ensures)) (as-bound s.s.greatest (greatest-fits c) _ _ s.s.paired c.put_bound-c.ensures)) (as_sums s.s.sum (sum_fits c) _ _ s.s.sizes c.put_sums.ensures)

@@ -1,0 +1,18 @@
+use borrow.Author.Rules.{rules}
+use Rattle.capture.specs.Typing.{Put}
+use Rattle.capture.proofs.Typing.{then}
+use Rattle.gauge.specs.Words.{sum_words}
+use Rattle.gauge.proofs.Signs.{as-signed}
+use Rattle.gauge.proofs.words.put_sums.Goals as goal
+
+pub returns : goal.returns
+unfolding sum_words
+returns c =    
+    
+    
+    let w = c in
+    let v = w in
+    let a = v in
+    let s = a.args in
+    let p : Put = record { buffer = s.out.now; at = s.at } in
+    then p _ _ (then p _ _ (then p _ _ (then p _ _ v.put-words.ensures (as-signed s.sum a.ranges.sum _ _ w.put-signed.ensures)) c.put_words-c.ensures) c.put_decimal-d.ensures) c.put_words.ensures

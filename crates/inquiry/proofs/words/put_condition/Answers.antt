@@ -1,0 +1,19 @@
+use borrow.Author.Rules.{rules}
+use Rattle.capture.specs.Typing.{Put}
+use Rattle.capture.proofs.Typing.{then}
+use Rattle.inquiry.specs.Words.{condition_words}
+use Rattle.inquiry.proofs.words.put_condition.Goals as goal
+
+pub returns : goal.returns
+unfolding condition_words
+returns c =    
+    
+    
+    let w = c in
+    let v = w in
+    let u = v in
+    let t = u in
+    let q = t in
+    let s = q.args in
+    let p : Put = record { buffer = s.out.now; at = s.at } in
+    then p _ _ (then p _ _ (then p _ _ (then p _ _ (then p _ _ (then p _ _ t.put-fault-kind.ensures u.put-words.ensures) v.put-decimal.ensures) w.put-words2.ensures) c.put_link_down-f.ensures) c.put_interface-g.ensures) c.put_global.ensures

@@ -1,0 +1,18 @@
+use borrow.Author.Rules.{rules}
+use Rattle.capture.specs.Typing.{Put}
+use Rattle.capture.proofs.Typing.{then}
+use Rattle.inquiry.specs.Words.{padded}
+use Rattle.inquiry.proofs.words.put_six.Goals as goal
+
+pub returns : goal.returns
+unfolding padded
+returns c =    
+    
+    
+    let w = c in
+    let v = w in
+    let u = v in
+    let t = u in
+    let s = t.args in
+    let p : Put = record { buffer = s.out.now; at = s.at } in
+    then p _ _ (then p _ _ (then p _ _ (then p _ _ (then p _ _ u.put-digit.ensures v.put-digit2.ensures) w.put-digit3.ensures) c.put_digit-h.ensures) c.put_digit-i.ensures) c.put_digit.ensures

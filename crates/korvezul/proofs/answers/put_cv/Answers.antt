@@ -1,0 +1,6 @@
+use borrow.Author.Rules.{rules}
+use mathlib.Core.Path.{◌∙◌}
+use Rattle.korvezul.proofs.answers.put_cv.Goals as goal
+
+pub returns : goal.returns
+returns c = c.write_octets.ensures ∙ rw c.part.ensures

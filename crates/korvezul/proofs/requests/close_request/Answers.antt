@@ -1,0 +1,5 @@
+use borrow.Author.Rules.{rules}
+use Rattle.korvezul.proofs.requests.close_request.Goals as goal
+
+pub returns : goal.returns
+returns c = rw c.meant.ensures

@@ -1,8 +1,0 @@
--- `korvezul::write_cv_request` meets its contract.
--- Assumes nothing.
-use borrow.Author.Rules.{rules}
-use Rattle.korvezul.proofs.requests.write_cv_request.Statement.{statement}
-use Rattle.korvezul.proofs.requests.write_cv_request.Tie as tie
-
-pub write-cv-request-spec : {M : Type 1} → statement M
-write-cv-request-spec = tie.close (tie.spec (λ c κs. search rules) (λ c. rw c.meant.ensures))

@@ -1,0 +1,5 @@
+use borrow.Author.Rules.{rules}
+use Rattle.pump.proofs.moving.is_end.Goals as goal
+
+pub returns : goal.returns
+returns c = rw c.if-closed.false

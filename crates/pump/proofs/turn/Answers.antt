@@ -1,0 +1,29 @@
+use mathlib.Core.Path.{sym, ◌∙◌}
+use borrow.Author.Rules.{rules}
+use borrow.Author.Tests.{not-true, not-false}
+use Rattle.pump.proofs.Turning.{writes-first, no_more, turn-rests, turn-feeds}
+use Rattle.pump.proofs.turn.Goals as goal
+
+pub returns-then-p : goal.returns-then-p
+returns-then-p c = let s = c.args in writes-first s.p s.buf.now s.out.now c.if-p.true
+
+pub returns-then-p-2 : goal.returns-then-p-2
+returns-then-p-2 c =    
+    let s = c.args in
+    no_more s.p s.buf.now s.out.now c.if-p.false c.if-p-2.true
+
+pub returns-then-not-is_ready : goal.returns-then-not-is_ready
+returns-then-not-is_ready c =    
+    
+    
+    let s = c.args in
+    turn-rests s.p s.buf.now s.out.now c.if-p.false c.if-p-2.false _ c.begin-q.ensures (sym c.is_ready.ensures ∙ not-true c.is_ready.result c.if-not-is_ready.true)
+
+pub returns : goal.returns
+returns c =    
+    
+    
+    let b = c in
+    let o = b in
+    let s = o.args in
+    turn-feeds s.p s.buf.now s.out.now o.if1.false o.if2.false _ b.begin.ensures (sym c.is_ready.ensures ∙ not-false c.is_ready.result c.if-not-is_ready.false) _ c.feed_on.ensures

@@ -1,0 +1,15 @@
+use mathlib.Core.Path.{sym, ap, ◌∙◌}
+use borrow.Author.Rules.{rules}
+use Rattle.capture.specs.Records.{is_whole}
+use Rattle.pump.proofs.Turning.{none-fed}
+use Rattle.pump.proofs.turns.feed_on.Goals as goal
+
+pub returns : goal.returns
+returns c =    
+    
+    
+    let w = c in
+    let s = w.args in
+    c.unfed.ensures
+    ∙ none-fed s.p s.buf.now s.out.now w.within.result w.within.ensures
+    (sym (c.is_whole.ensures ∙ ap is_whole c.next_record.ensures) ∙ c.if-is_whole.false)

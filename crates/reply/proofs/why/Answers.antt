@@ -1,0 +1,22 @@
+use mathlib.Core.Path.{sym, ◌∙◌}
+use borrow.Author.Rules.{rules}
+use borrow.Author.Tests.{not-true, not-false}
+use Rattle.reply.proofs.Whole.{unfit, answers}
+use Rattle.reply.proofs.why.Goals as goal
+
+pub returns-then-not-header_fits : goal.returns-then-not-header_fits
+returns-then-not-header_fits c =    
+    let s = c.args in
+    unfit s.capture.now s.label s.thing (sym c.header_fits.ensures ∙ not-true c.header_fits.result c.if-not-header_fits.true)
+
+pub returns : goal.returns
+returns c =    
+    
+    
+    let m = c in
+    let e = m in
+    let h = e in
+    let s = h.args in
+    answers s.capture.now _ _ s.label s.thing (sym h.header-fits.ensures ∙ not-false h.header-fits.result e.if1.false)
+    m.most-records.result m.most-records.ensures c.begin.result c.begin.ensures c.trace-t.result c.trace-t.ensures
+    c.record_asked.result c.record_asked.ensures c.answer_from.result c.answer_from.ensures

@@ -1,0 +1,16 @@
+use Prim.Native.Nat.{ℕ, ◌≤◌}
+use native.Mathlib.Omega.{arith}
+use mathlib.Core.List.{List}
+use lib.ListN.{length}
+use lib.Seq.{length-take-le}
+use Rattle.io.specs.Counts.{IsPrefixLen}
+use Rattle.runs.proofs.within.Goals as goal
+
+counted : (n : ℕ) (buf : List ℕ) → n ≤ length buf → IsPrefixLen n buf
+counted n buf l = (l, omega (arith, length-take-le n buf l))
+
+pub returns-then-n-buf : goal.returns-then-n-buf
+returns-then-n-buf c = counted _ _ (omega arith)
+
+pub returns : goal.returns
+returns c = counted _ _ (omega arith)

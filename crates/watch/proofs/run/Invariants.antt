@@ -1,0 +1,16 @@
+-- calls that are left.
+use mathlib.Core.Path.{◌≡◌, refl, ◌∙◌}
+use mathlib.Core.Logic.{⊎_elim}
+use lib.ListN.{length}
+use borrow.Author.Rules.{rules}
+use Rattle.pump.specs.Pumping.{Pumped}
+use Rattle.watch.specs.Calls.{Reached}
+use Rattle.watch.proofs.Calling.{reached-first, reached-turn, reached-same}
+use Rattle.watch.proofs.run.Given as goal
+
+abbrev pub invariant-loop-turns : goal.invariant-loop-turns
+invariant-loop-turns l =
+    (length l.buf ≡ length l.initial.buf) × (length l.out ≡ length l.initial.out) × Reached l.initial.buf l.initial.out (record { pump = l.core; l.buf = l.buf; l.out = l.out })
+
+abbrev pub decreases-loop-turns : goal.decreases-loop-turns
+decreases-loop-turns l = l.turns

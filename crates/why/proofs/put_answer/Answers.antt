@@ -1,0 +1,5 @@
+use borrow.Author.Rules.{rules}
+use Rattle.why.proofs.put_answer.Goals as goal
+
+pub returns : goal.returns
+returns c =  rw (← c.ended.ensures) c.put_text.ensures

@@ -1,0 +1,16 @@
+use mathlib.Core.Path.{◌≡◌, refl, ap, ◌∙◌}
+use mathlib.Core.Bool.{true, false}
+use lib.ListN.{length}
+use borrow.Author.Rules.{rules}
+use Rattle.inquiry.specs.declared.search.Search.{Search}
+use Rattle.inquiry.specs.Searching.{Searched, start_of}
+use Rattle.why.specs.Reads.{Reached}
+use Rattle.why.proofs.Reading.{reached-first, reached-next}
+use Rattle.why.proofs.run.Given as goal
+
+abbrev pub invariant-loop-turns : goal.invariant-loop-turns
+invariant-loop-turns l =
+    (length l.buf ≡ length l.initial.buf) × (length l.kept ≡ length l.initial.kept) × (l.go ≡ true → l.s.over ≡ false) × Reached l.label l.upto l.initial.kept (record { search = l.s; l.buf = l.buf; l.kept = l.kept })
+
+abbrev pub decreases-loop-turns : goal.decreases-loop-turns
+decreases-loop-turns l = l.turns
