@@ -13,7 +13,7 @@ use Rattle.account.proofs.Made.{added-single, added-over}
 use Rattle.account.proofs.add_pair.Goals as goal
 
 pub returns-then-e : goal.returns-then-e
-returns-then-e c =    
+returns-then-e c =
     let a = c.args in
     let e = c.error_of-e.result in
     let z = error_of a.later a.earlier a.period in
@@ -25,5 +25,5 @@ returns-then-e c =
     ∙ added-single a.a z
 
 pub returns : goal.returns
-returns c =    let a = c.args in
+returns c = let a = c.args in
     c.overrun.ensures ∙ added-over a.a (error_of a.later a.earlier a.period) (sym (ap (λ (e : Signed). e.fits) c.error_of-e.ensures) ∙ c.if-e.false)

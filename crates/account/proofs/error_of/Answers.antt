@@ -9,15 +9,15 @@ use Rattle.account.proofs.error_of.Goals as goal
 
 pub returns-then-later-earlier : goal.returns-then-later-earlier
 unfolding error_of
-returns-then-later-earlier c =    let a = c.args in
+returns-then-later-earlier c = let a = c.args in
     c.negative.ensures ∙ ap signed (sym (all-behind a.later a.earlier a.period (omega arith)))
 
 pub returns-then-d-p : goal.returns-then-d-p
 unfolding error_of
-returns-then-d-p c =    let a = c.args in
+returns-then-d-p c = let a = c.args in
     c.negative-then-d-p.ensures ∙ ap signed (sym (all_short a.later a.earlier a.period (omega arith) (omega arith)))
 
 pub returns : goal.returns
 unfolding error_of
-returns c =    let a = c.args in
+returns c = let a = c.args in
     c.positive.ensures ∙ ap signed (sym (all-ahead a.later a.earlier a.period (omega arith) (omega arith)))

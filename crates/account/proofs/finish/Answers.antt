@@ -19,15 +19,15 @@ pub returns-then-a : goal.returns-then-a
 returns-then-a c = finished-over c.args.a c.if-a.true
 
 pub returns-then-a-gt-MOST : goal.returns-then-a-gt-MOST
-returns-then-a-gt-MOST c =    let a = c.args.a in
+returns-then-a-gt-MOST c = let a = c.args.a in
     finished-not a c.if-a.false (fit-pairs (numbers_of a) (le-ltb a.pairs 9223372036854775808 (omega arith)))
 
 pub returns-then-a-gt-MOST-2 : goal.returns-then-a-gt-MOST-2
-returns-then-a-gt-MOST-2 c =    let a = c.args.a in
+returns-then-a-gt-MOST-2 c = let a = c.args.a in
     finished-not a c.if-a.false (fit-sizes (numbers_of a) (le-ltb a.sizes 9223372036854775808 (omega arith)))
 
 pub returns : goal.returns
-returns c =    
+returns c =
     let a = c.args.a in
     let fl : SFits w64 a.least = search rules in
     let fg : SFits w64 a.greatest = search rules in

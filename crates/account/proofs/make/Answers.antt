@@ -8,19 +8,19 @@ use Rattle.account.proofs.Kept.{first-not, second-not, third-not, all_three, mad
 use Rattle.account.proofs.make.Goals as goal
 
 pub returns-then-not-pairs : goal.returns-then-not-pairs
-returns-then-not-pairs c =    let a = c.args in
+returns-then-not-pairs c = let a = c.args in
     c.overrun.ensures ∙ made-over a.pairs a.least a.greatest a.sum a.sizes (first-not a.pairs.fits a.sum.fits a.sizes.fits (not-true _ c.if-not-pairs.true))
 
 pub returns-then-not-sum : goal.returns-then-not-sum
-returns-then-not-sum c =    let a = c.args in
+returns-then-not-sum c = let a = c.args in
     c.overrun-then-not-sum.ensures ∙ made-over a.pairs a.least a.greatest a.sum a.sizes (second-not a.pairs.fits a.sum.fits a.sizes.fits (not-true _ c.if-not-sum.true))
 
 pub returns-then-not-sizes : goal.returns-then-not-sizes
-returns-then-not-sizes c =    let a = c.args in
+returns-then-not-sizes c = let a = c.args in
     c.overrun-then-not-sizes.ensures ∙ made-over a.pairs a.least a.greatest a.sum a.sizes (third-not a.pairs.fits a.sum.fits a.sizes.fits (not-true _ c.if-not-sizes.true))
 
 pub returns : goal.returns
-returns c =    
+returns c =
     let a = c.args in
     let f : SFits w64 a.sum.value = search rules in
     made_all a.pairs a.least a.greatest a.sum a.sizes

@@ -6,16 +6,14 @@ use Rattle.lateness.proofs.Whole.{unfit, spaces}
 use Rattle.lateness.proofs.spacing.Goals as goal
 
 pub returns-then-not-header_fits : goal.returns-then-not-header_fits
-returns-then-not-header_fits c =    
+returns-then-not-header_fits c =
     let s = c.args in
     c.finish.ensures
     ∙ ap finished_of c.nothing.ensures
     ∙ unfit s.capture.now s.label (sym c.header_fits.ensures ∙ not-true c.header_fits.result c.if-not-header_fits.true)
 
 pub returns : goal.returns
-returns c =    
-    
-    
+returns c =
     let h = c in
     let s = h.args in
     spaces s.capture.now s.label (sym h.header-fits.ensures ∙ not-false h.header-fits.result c.if-not-header_fits.false)

@@ -13,18 +13,18 @@ returns-then-channel-eq-CC_CHANNEL c = rw (← c.get_u16-channel.ensures, ne_eqb
 
 pub returns-then-channel-eq-CV_CHANNEL : goal.returns-then-channel-eq-CV_CHANNEL
 unfolding message_place
-returns-then-channel-eq-CV_CHANNEL c =    rw (
-      ← c.get_u16-channel.ensures,
-      ne_eqb _ _ c.if-channel-eq-DHC_CHANNEL.false,
-      ne_eqb _ _ c.if-channel-eq-CC_CHANNEL.false,
-      eq-eqb _ _ c.if-channel-eq-CV_CHANNEL.true,
-    ) c.cv_place.ensures
+returns-then-channel-eq-CV_CHANNEL c = rw (
+  ← c.get_u16-channel.ensures,
+  ne_eqb _ _ c.if-channel-eq-DHC_CHANNEL.false,
+  ne_eqb _ _ c.if-channel-eq-CC_CHANNEL.false,
+  eq-eqb _ _ c.if-channel-eq-CV_CHANNEL.true,
+) c.cv_place.ensures
 
 pub returns : goal.returns
 unfolding message_place
-returns c =    rw (
-      ← c.get_u16-channel.ensures,
-      ne_eqb _ _ c.if-channel-eq-DHC_CHANNEL.false,
-      ne_eqb _ _ c.if-channel-eq-CC_CHANNEL.false,
-      ne_eqb _ _ c.if-channel-eq-CV_CHANNEL.false,
-    ) c.fault_place.ensures
+returns c = rw (
+  ← c.get_u16-channel.ensures,
+  ne_eqb _ _ c.if-channel-eq-DHC_CHANNEL.false,
+  ne_eqb _ _ c.if-channel-eq-CC_CHANNEL.false,
+  ne_eqb _ _ c.if-channel-eq-CV_CHANNEL.false,
+) c.fault_place.ensures

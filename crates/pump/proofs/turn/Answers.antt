@@ -8,21 +8,17 @@ pub returns-then-p : goal.returns-then-p
 returns-then-p c = let s = c.args in writes-first s.p s.buf.now s.out.now c.if-p.true
 
 pub returns-then-p-2 : goal.returns-then-p-2
-returns-then-p-2 c =    
+returns-then-p-2 c =
     let s = c.args in
     no_more s.p s.buf.now s.out.now c.if-p.false c.if-p-2.true
 
 pub returns-then-not-is_ready : goal.returns-then-not-is_ready
-returns-then-not-is_ready c =    
-    
-    
+returns-then-not-is_ready c =
     let s = c.args in
     turn-rests s.p s.buf.now s.out.now c.if-p.false c.if-p-2.false _ c.begin-q.ensures (sym c.is_ready.ensures ∙ not-true c.is_ready.result c.if-not-is_ready.true)
 
 pub returns : goal.returns
-returns c =    
-    
-    
+returns c =
     let b = c in
     let o = b in
     let s = o.args in

@@ -5,14 +5,12 @@ use Rattle.reply.proofs.Whole.{unfit, answers}
 use Rattle.reply.proofs.why.Goals as goal
 
 pub returns-then-not-header_fits : goal.returns-then-not-header_fits
-returns-then-not-header_fits c =    
+returns-then-not-header_fits c =
     let s = c.args in
     unfit s.capture.now s.label s.thing (sym c.header_fits.ensures ∙ not-true c.header_fits.result c.if-not-header_fits.true)
 
 pub returns : goal.returns
-returns c =    
-    
-    
+returns c =
     let m = c in
     let e = m in
     let h = e in

@@ -12,7 +12,7 @@ use borrow.Author.Rules.{rules}
 use Rattle.syscall.proofs.error_number.Goals as goal
 
 pub overflow_cast-result : goal.overflow_cast-result
-overflow_cast-result c =    let x = c.args.error in
+overflow_cast-result c = let x = c.args.error in
     let same = to_z-of_z w32 x c.ranges.error in (
       yes_non_neg (lt_z_no {a = to_z w32 (of_z w32 x)} {b = pos 0} (subst (λ (t : Bool). T (not t)) (sym c.if-error-lt0.false) tt)),
       subst (λ (z : ℤ). Fits w64 (nat_abs z)) (sym same) (record { fits = lt_of_le_of_lt (nat_abs-le x c.ranges.error.sfits) (lit< tt) }),

@@ -9,12 +9,11 @@ use Rattle.watch.proofs.Calling.{reached-first, reached-turn, reached-same}
 use Rattle.watch.proofs.run.Goals as goal
 
 pub loop-turns-init : goal.loop-turns-init
-loop-turns-init c =    let a = c.args in
+loop-turns-init c = let a = c.args in
     (refl, refl, rw c.start-core.ensures (reached-first a.buf.now a.out.now))
 
 pub loop-turns-preserved : goal.loop-turns-preserved
-loop-turns-preserved c =    
-    
+loop-turns-preserved c =
     let a = c.args in
     let x : Pumped = record { pump = c.loop-turns.core; buf = c.loop-turns.buf; out = c.loop-turns.out } in
     let room = c.call-called.auto.1.0 ∙ c.loop-turns.invariant.0 in

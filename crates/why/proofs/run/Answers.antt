@@ -10,7 +10,7 @@ use Rattle.why.proofs.run.Goals as goal
 
 pub loop-turns-init : goal.loop-turns-init
 unfolding start_of
-loop-turns-init c =    
+loop-turns-init c =
     let a = c.args in (
       refl,
       refl,
@@ -19,12 +19,10 @@ loop-turns-init c =
     )
 
 pub read_on-x-requires : goal.read_on-x-requires
-read_on-x-requires c =  c.loop-turns.invariant.2 c.if-go.true
+read_on-x-requires c = c.loop-turns.invariant.2 c.if-go.true
 
 pub loop-turns-preserved : goal.loop-turns-preserved
-loop-turns-preserved c =    
-    
-    
+loop-turns-preserved c =
     let s = c in
     let a = s.args in
     let i = c.loop-turns.invariant in

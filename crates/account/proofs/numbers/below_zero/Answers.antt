@@ -6,9 +6,10 @@ use mir.Syntax.{w64}
 use mir.Val.{SFits}
 use mir.ValLaws.{to_z-of_z}
 use Rattle.account.proofs.Integers.{small, read_pos, minus-fits, down-one}
+use Rattle.account.proofs.numbers.below_zero.Lts as lts
 use Rattle.account.proofs.numbers.below_zero.Goals as goal
 
-turned-fits : (c : tie.Start) → SFits w64 (pos 0 -ℤ pos c.args.n)
+turned-fits : (c : lts.Start) → SFits w64 (pos 0 -ℤ pos c.args.n)
 turned-fits c = minus-fits 0 c.args.n (omega arith) c.requires
 
 pub overflow_sub-result : goal.overflow_sub-result

@@ -6,11 +6,11 @@ use Rattle.account.proofs.numbers.lesser_of.Lts as lts
 use Rattle.account.proofs.numbers.lesser_of.Goals as goal
 
 pub returns-then-a-b : goal.returns-then-a-b
-returns-then-a-b c = 
+returns-then-a-b c =
     let h = rw (to_z-of_z w64 c.args.a c.ranges.a, to_z-of_z w64 c.args.b c.ranges.b) at c.if-a-b.true in
     to_z-of_z w64 _ c.ranges.a ∙ rw h
 
 pub returns-else-a-b : goal.returns-else-a-b
-returns-else-a-b c = 
+returns-else-a-b c =
     let h = rw (to_z-of_z w64 c.args.a c.ranges.a, to_z-of_z w64 c.args.b c.ranges.b) at c.if-a-b.false in
     to_z-of_z w64 _ c.ranges.b ∙ rw h

@@ -33,4 +33,4 @@ pub returns : goal.returns
 returns c = let a = c.args in
     let h : 0 < a.m + a.n = omega (arith, c.if-size-eq0.false) in
     signed_yes (pos 0 -ℤ pos (a.m + a.n)) (near (a.m + a.n) h (omega arith))
-    (to_z-of_z w64 _ (small _ c.below_zero-value.type-inv) ∙ c.below_zero-value.ensures ∙ sym (zero-less (a.m + a.n) h))
+    (to_z-of_z w64 _ (small _ c.below_zero-value.type_inv) ∙ c.below_zero-value.ensures ∙ sym (zero-less (a.m + a.n) h))

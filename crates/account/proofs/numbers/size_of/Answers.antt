@@ -9,6 +9,7 @@ use mir.ValLaws.{to_z-of_z}
 use Rattle.account.proofs.Integers.{small, up, turned, size_below, size_small, not-below}
 use Rattle.account.proofs.numbers.size_of.Reads as reads
 use Rattle.account.proofs.numbers.size_of.Lts as lts
+use Rattle.account.proofs.numbers.size_of.Lts as lts
 use Rattle.account.proofs.numbers.size_of.Goals as goal
 
 -- what the machine makes of a negative number: one more, and that taken from 0
@@ -16,11 +17,11 @@ module _ (e : ℤ) (f : SFits w64 e) (h : lt_z e (pos 0) ≡ true) where
   made : to_z w64 (of_z w64 (pos 0 -ℤ to_z w64 (of_z w64 (to_z w64 (of_z w64 e) +ℤ pos 1)))) ≡ pos (mag e)
   made = rw (to_z-of_z w64 e f, to_z-of_z w64 (e +ℤ pos 1) (up e h f), turned e h) (to_z-of_z w64 (pos (mag e)) (small _ f.sfits))
 
-below : (c : tie.Then1) → lt_z c.before.args.e (pos 0) ≡ true
-below c = rw (to_z-of_z w64 c.before.args.e c.before.ranges.e) at c.if1.true
+below : (c : lts.Then1) → lt_z c.args.e (pos 0) ≡ true
+below c = rw (to_z-of_z w64 c.args.e c.ranges.e) at c.if-e-lt0.true
 
-above : (c : tie.Else1) → lt_z c.before.args.e (pos 0) ≡ false
-above c = rw (to_z-of_z w64 c.before.args.e c.before.ranges.e) at c.if1.false
+above : (c : lts.Else1) → lt_z c.args.e (pos 0) ≡ false
+above c = rw (to_z-of_z w64 c.args.e c.ranges.e) at c.if-e-lt0.false
 
 pub overflow_add-result : goal.overflow_add-result
 overflow_add-result c = rw (to_z-of_z w64 c.args.e c.ranges.e) (up _ (below c) c.ranges.e)

@@ -7,26 +7,25 @@ use mir.ValLaws.{to_z-of_z}
 use Rattle.account.specs.Figures.{fits}
 use Rattle.account.proofs.Integers.{small, true-fits}
 use Rattle.account.proofs.Kept.{signed_yes, signed_no}
+use Rattle.account.proofs.numbers.sum_in.Lts as lts
 use Rattle.account.proofs.numbers.sum_in.Goals as goal
 
-room : (c : tie.Then1) → fits (c.before.before.args.a +ℤ c.before.before.args.b) ≡ true
+room : (c : lts.Then1) → fits (c.args.a +ℤ c.args.b) ≡ true
 room c =
-    let s = c.before.before in
-    (rw (to_z-of_z w64 s.args.a s.ranges.a, to_z-of_z w64 s.args.b s.ranges.b) at (sym c.before.has_room.ensures)) ∙ c.if1.true
+    (rw (to_z-of_z w64 c.args.a c.ranges.a, to_z-of_z w64 c.args.b c.ranges.b) at (sym c.has_room.ensures)) ∙ c.if-has_room.true
 
-no_room : (c : tie.Else1) → fits (c.before.before.args.a +ℤ c.before.before.args.b) ≡ false
+no_room : (c : lts.Else1) → fits (c.args.a +ℤ c.args.b) ≡ false
 no_room c =
-    let s = c.before.before in
-    (rw (to_z-of_z w64 s.args.a s.ranges.a, to_z-of_z w64 s.args.b s.ranges.b) at (sym c.before.has_room.ensures)) ∙ c.if1.false
+    (rw (to_z-of_z w64 c.args.a c.ranges.a, to_z-of_z w64 c.args.b c.ranges.b) at (sym c.has_room.ensures)) ∙ c.if-has_room.false
 
 pub sum_of-sum-requires : goal.sum_of-sum-requires
-sum_of-sum-requires c = 
+sum_of-sum-requires c =
     rw (to_z-of_z w64 c.args.a c.ranges.a, to_z-of_z w64 c.args.b c.ranges.b) (true-fits (c.args.a +ℤ c.args.b) (room c))
 
 pub returns-then-has_room : goal.returns-then-has_room
-returns-then-has_room c = 
+returns-then-has_room c =
     signed_yes (c.args.a +ℤ c.args.b) (room c)
-    (to_z-of_z w64 _ (small _ c.sum_of-sum.type-inv) ∙ c.sum_of-sum.ensures ∙ rw (to_z-of_z w64 c.args.a c.ranges.a, to_z-of_z w64 c.args.b c.ranges.b))
+    (to_z-of_z w64 _ (small _ c.sum_of-sum.type_inv) ∙ c.sum_of-sum.ensures ∙ rw (to_z-of_z w64 c.args.a c.ranges.a, to_z-of_z w64 c.args.b c.ranges.b))
 
 pub returns : goal.returns
-returns c =  signed_no (c.args.a +ℤ c.args.b) (no_room c)
+returns c = signed_no (c.args.a +ℤ c.args.b) (no_room c)

@@ -10,12 +10,12 @@ use Rattle.call_log.proofs.reading.follow.Goals as goal
 
 pub returns-then-answer-ne0 : goal.returns-then-answer-ne0
 unfolding followed
-returns-then-answer-ne0 c =    let a = c.args in
+returns-then-answer-ne0 c = let a = c.args in
     rw (ne_eqb (answer_in a.s.now) 0 (λ z. c.if-answer-ne0.true (c.get_u16-answer.ensures ∙ z)))
 
 pub returns : goal.returns
 unfolding followed
-returns c =    let a = c.args in
+returns c = let a = c.args in
     let s = a.s.now in
     let r = c.record_in-r.ensures in
     let body = c.part.ensures ∙ ap (λ (x : Record). take x.size (drop 18 s)) r in

@@ -7,5 +7,5 @@ use Rattle.call_log.proofs.records.is_whole.Goals as goal
 
 pub returns : goal.returns
 unfolding is_whole
-returns c =    let a = c.args in
+returns c = let a = c.args in
     c.whole_of.ensures ∙ ap (λ (r : Record). whole_of (length a.s.now) r.kind r.size) c.record_in-r.ensures

@@ -16,7 +16,7 @@ pub bounds-out-next-in-loop-i : goal.bounds-out-next-in-loop-i
 bounds-out-next-in-loop-i c = simp length-set (omega arith)
 
 pub loop-i-preserved : goal.loop-i-preserved
-loop-i-preserved c =    let a = c.args in
+loop-i-preserved c = let a = c.args in
     let l = c.loop-i in (
       omega arith,
       (

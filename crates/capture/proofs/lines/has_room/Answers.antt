@@ -10,7 +10,7 @@ pub returns-then-room-at : goal.returns-then-room-at
 returns-then-room-at c = sym (lt-leb (c.args.at + c.args.octets) c.args.room (omega arith))
 
 pub returns : goal.returns
-returns c =    let a = c.args in
+returns c = let a = c.args in
     let end = a.at + a.octets in
     let left = a.room - a.at in
     split (leb a.octets left)

@@ -12,7 +12,7 @@ returns-then-n-lt10 c = let a = c.args in
     digit-typed a.n (record { buffer = a.out.now; at = a.at }) c.if-n-lt10.true c.push.ensures
 
 pub fill_digits-requires : goal.fill_digits-requires
-fill_digits-requires c =    
+fill_digits-requires c =
     let a = c.args in (
       c.digit_count-count.ensures,
       leb-true (a.at + c.digit_count-count.result) (length a.out.now) (sym c.has_room.ensures ∙ c.if-has_room.true),

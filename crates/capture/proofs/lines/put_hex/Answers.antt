@@ -7,6 +7,6 @@ use borrow.Author.Tests.{leb-true}
 use Rattle.capture.proofs.lines.put_hex.Goals as goal
 
 pub fill_hex-requires : goal.fill_hex-requires
-fill_hex-requires c =    
+fill_hex-requires c =
     let a = c.args in
     leb-true (a.at + 2 * length a.octets.now) (length a.out.now) (sym c.has_room.ensures ∙ c.if-has_room.true)

@@ -11,8 +11,7 @@ pub loop-i-init : goal.loop-i-init
 loop-i-init c = let a = c.args in (omega arith, (refl, typed-none (record { buffer = a.out.now; at = a.at })))
 
 pub loop-i-preserved : goal.loop-i-preserved
-loop-i-preserved c =    
-    
+loop-i-preserved c =
     let l = c.loop-i in
     let a = c.args in (
       omega arith,
@@ -26,6 +25,6 @@ pub shape_of-out : goal.shape_of-out
 shape_of-out c = c.loop-i.invariant.1.0
 
 pub returns : goal.returns
-returns c =    let a = c.args in
+returns c = let a = c.args in
     let l = c.loop-i in
     l.invariant.1.1 ∙ words-all (record { buffer = a.out.now; at = a.at }) a.words.now l.i c.loop-i-test.false

@@ -9,4 +9,4 @@ returns-then-s-lt16 c = rw (c.no_record.ensures, lt-ltb (length c.args.s.now) 16
 
 pub returns : goal.returns
 unfolding record_in
-returns c =    rw (le-ltb (length c.args.s.now) 16 c.if-s-lt16.false, c.get_u16-2.ensures, c.get_u16.ensures, c.get_u32.ensures, c.get_u64.ensures)
+returns c = rw (le-ltb (length c.args.s.now) 16 c.if-s-lt16.false, c.get_u16-2.ensures, c.get_u16.ensures, c.get_u32.ensures, c.get_u64.ensures)

@@ -4,7 +4,7 @@ use borrow.Author.Rules.{rules}
 use Rattle.cause.proofs.answer.best_standing.Goals as goal
 
 pub returns : goal.returns
-returns c =    
+returns c =
     let s = c.args in
     c.best_of.ensures
     ∙ (λ i.

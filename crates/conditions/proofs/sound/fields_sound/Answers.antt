@@ -16,12 +16,12 @@ by-marks kind present carrier linkdown refresh at clock =
     parted (leb kind 2) (ltb present 2) (ltb carrier 2) (ltb linkdown 2) (leb 1 refresh) (leb refresh 20) (leb at clock)
 
 pub returns-then-marks_sound : goal.returns-then-marks_sound
-returns-then-marks_sound c =    
+returns-then-marks_sound c =
     let a = c.args in
     rw (by-marks a.kind a.present a.carrier a.linkdown a.refresh a.at a.clock, ← c.marks_sound.ensures, c.if-marks_sound.true, le-leb _ _ c.if-kind-gt2.false)
     c.times_sound.ensures
 
 pub returns : goal.returns
-returns c =    
+returns c =
     let a = c.args in
     rw (by-marks a.kind a.present a.carrier a.linkdown a.refresh a.at a.clock, ← c.marks_sound.ensures, c.if-marks_sound.false, le-leb _ _ c.if-kind-gt2.false)

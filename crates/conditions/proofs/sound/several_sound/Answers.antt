@@ -14,8 +14,7 @@ pub returns-then-not-b : goal.returns-then-not-b
 returns-then-not-b c = refused _ _ (λ s. unsound _ _ c.digest_of-b.ensures c.if-not-b.true s.second)
 
 pub returns-then-are_alike : goal.returns-then-are_alike
-returns-then-are_alike c =    
-    
+returns-then-are_alike c =
     let held = keys-held _ _ c.well-formed.0 in
     refused _ _ (λ s. clashing _ _ _ held.first held.second c.digest_of-a.ensures c.digest_of-b.ensures (sym c.are_alike.ensures ∙ c.if-are_alike.true) s.first s.second s.apart12)
 
@@ -23,9 +22,7 @@ pub returns-then-not-c : goal.returns-then-not-c
 returns-then-not-c c = refused _ _ (λ s. unsound _ _ c.digest_of-c.ensures c.if-not-c.true s.third)
 
 pub returns-then-is_alike_to : goal.returns-then-is_alike_to
-returns-then-is_alike_to c =    
-    
-    
+returns-then-is_alike_to c =
     let held = keys-held _ _ c.well-formed.0 in
     refused _ _
     (λ s. ⊎_elim (λ z. clashing _ _ _ held.first held.third c.digest_of-a.ensures c.digest_of-c.ensures z s.first s.third s.apart13)
@@ -36,9 +33,7 @@ pub returns-then-not-d : goal.returns-then-not-d
 returns-then-not-d c = refused _ _ (λ s. unsound _ _ c.digest_of-d.ensures c.if-not-d.true s.fourth)
 
 pub returns-then-is_alike_to-2 : goal.returns-then-is_alike_to-2
-returns-then-is_alike_to-2 c =    
-    
-    
+returns-then-is_alike_to-2 c =
     let one = c in
     let held = keys-held _ _ one.well-formed.0 in
     refused _ _
@@ -47,17 +42,13 @@ returns-then-is_alike_to-2 c =
     (or_cases _ _ (sym c.is_alike_to-2.ensures ∙ c.if-is_alike_to-2.true)))
 
 pub returns-then-are_alike-2 : goal.returns-then-are_alike-2
-returns-then-are_alike-2 c =    
-    
-    
+returns-then-are_alike-2 c =
     let one = c in
     let held = keys-held _ _ one.well-formed.0 in
     refused _ _ (λ s. clashing _ _ _ held.third held.fourth c.digest_of-c.ensures c.digest_of-d.ensures (sym c.are_alike-2.ensures ∙ c.if-are_alike-2.true) s.third s.fourth s.apart34)
 
 pub returns : goal.returns
-returns c =    
-    
-    
+returns c =
     let one = c in
     let held = keys-held _ _ one.well-formed.0 in
     let p1 = sound _ _ one.digest-of.ensures c.if-not-a.false in

@@ -12,23 +12,23 @@ returns-then-followed_with-2 c = rw (← c.followed_with.ensures, c.if-followed_
 
 pub returns-then-followed_with-3 : goal.returns-then-followed_with-3
 unfolding any_followed_with
-returns-then-followed_with-3 c =    rw (
-      ← c.followed_with.ensures,
-      c.if-followed_with.false,
-      ← c.followed_with-2.ensures,
-      c.if-followed_with-2.false,
-      ← c.followed_with-3.ensures,
-      c.if-followed_with-3.true,
-    )
+returns-then-followed_with-3 c = rw (
+  ← c.followed_with.ensures,
+  c.if-followed_with.false,
+  ← c.followed_with-2.ensures,
+  c.if-followed_with-2.false,
+  ← c.followed_with-3.ensures,
+  c.if-followed_with-3.true,
+)
 
 pub returns : goal.returns
 unfolding any_followed_with
-returns c =    rw (
-      ← c.followed_with.ensures,
-      c.if-followed_with.false,
-      ← c.followed_with-2.ensures,
-      c.if-followed_with-2.false,
-      ← c.followed_with-3.ensures,
-      c.if-followed_with-3.false,
-    )
+returns c = rw (
+  ← c.followed_with.ensures,
+  c.if-followed_with.false,
+  ← c.followed_with-2.ensures,
+  c.if-followed_with-2.false,
+  ← c.followed_with-3.ensures,
+  c.if-followed_with-3.false,
+)
     c.followed_with-4.ensures

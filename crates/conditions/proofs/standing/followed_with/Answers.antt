@@ -19,5 +19,5 @@ returns-then-is_followed c = c.does_stand.ensures ∙ rw (← c.is_followed.ensu
 
 pub returns : goal.returns
 unfolding followed_with
-returns c =    let a = c.args in
+returns c = let a = c.args in
     rw (← c.is_followed.ensures, c.if-is_followed.false) (sym (and-false (place_stands a.c a.now)))

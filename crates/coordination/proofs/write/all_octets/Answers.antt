@@ -5,7 +5,7 @@ use Rattle.coordination.proofs.write.all_octets.Goals as goal
 
 pub returns : goal.returns
 unfolding all_octets
-returns c =    puts c.put_octets.ensures
+returns c = puts c.put_octets.ensures
     c.put_octets-2.ensures
     c.put_octets-3.ensures
     c.head_octets.ensures

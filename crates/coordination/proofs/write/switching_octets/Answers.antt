@@ -3,7 +3,7 @@ use borrow.Author.Rules.{rules}
 use Rattle.coordination.proofs.write.switching_octets.Goals as goal
 
 pub returns-in-Absent : goal.returns-in-Absent
-returns-in-Absent c = rw c.enum_told-1.given.1
+returns-in-Absent c = rw c.in-Absent.is
 
 pub returns-in-Present : goal.returns-in-Present
-returns-in-Present c = rw (c.s-1.given.1, c.bit-in-Present.ensures.0, c.bit.ensures.0, two-bits)
+returns-in-Present c = rw (c.in-Present.is, c.bit-in-Present.ensures.value, c.bit.ensures.value, two-bits)

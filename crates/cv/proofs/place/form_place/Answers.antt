@@ -9,10 +9,10 @@ returns-then-kind-ge3 c = rw (le-ltb c.args.kind 3 c.if-kind-ge3.true)
 
 pub returns-then-length_fits : goal.returns-then-length_fits
 unfolding form_place
-returns-then-length_fits c =    let a = c.args in
+returns-then-length_fits c = let a = c.args in
     rw (lt-ltb a.kind 3 c.if-kind-ge3.false, ← c.length_fits.ensures, c.if-length_fits.true)
 
 pub returns : goal.returns
 unfolding form_place
-returns c =    let a = c.args in
+returns c = let a = c.args in
     rw (lt-ltb a.kind 3 c.if-kind-ge3.false, ← c.length_fits.ensures, c.if-length_fits.false)

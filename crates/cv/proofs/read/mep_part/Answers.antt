@@ -10,16 +10,16 @@ use Rattle.cv.proofs.Says.{cv-says, part-accepted, part-refused, at-accepted, at
 use Rattle.cv.proofs.read.mep_part.Goals as goal
 
 pub slice_bounds-result-end : goal.slice_bounds-result-end
-slice_bounds-result-end c =    let m = c.args.m.now in
+slice_bounds-result-end c = let m = c.args.m.now in
     let e : cv_refusal m ≡ 0 = sym c.cv_refusal-refusal.ensures ∙ c.if-refusal-eq0.true in
     let at : c.mep_at-at.result ≡ mep_at m = c.mep_at-at.ensures in
     let len : c.get_u16-length.result ≡ len_at m = c.get_u16-length.ensures ∙ ap (λ (k : ℕ). number_at 2 m (k + 2)) at in
     omega (arith, (cv-says m e).mep.room, at, len)
 
 pub returns-then-refusal-eq0 : goal.returns-then-refusal-eq0
-returns-then-refusal-eq0 c =    
+returns-then-refusal-eq0 c =
     let m = c.args.m.now in
-    let start = c.args.m.ptr.1 in
+    let start = c.args.m.ref_ptr.1 in
     let e : cv_refusal m ≡ 0 = sym c.cv_refusal-refusal.ensures ∙ c.if-refusal-eq0.true in
     let x = c.mep_at-at.result in
     let n = c.get_u16-length.result in
@@ -31,8 +31,8 @@ returns-then-refusal-eq0 c =
     )
 
 pub returns-else-refusal-eq0 : goal.returns-else-refusal-eq0
-returns-else-refusal-eq0 c =    
+returns-else-refusal-eq0 c =
     let m = c.args.m.now in
-    let start = c.args.m.ptr.1 in
+    let start = c.args.m.ref_ptr.1 in
     let h : cv_refusal m ≡ 0 → ⊥ = λ z. c.if-refusal-eq0.false (c.cv_refusal-refusal.ensures ∙ z) in
     (sym (part-refused m h), (refl, sym (zero-add start) ∙ ap (λ (k : ℕ). k + start) (sym (at-refused m h))))

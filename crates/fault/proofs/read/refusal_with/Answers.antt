@@ -6,6 +6,6 @@ use Rattle.fault.proofs.read.refusal_with.Goals as goal
 
 pub returns : goal.returns
 unfolding refusal_with
-returns c =    let a = c.args in
+returns c = let a = c.args in
     c.or_else.ensures
     ∙ rw (c.tlvs_refusal.ensures, c.front_refusal.ensures) (sym (front-first a.m.now (tlvs_refusal a.t)))

@@ -2,4 +2,4 @@ use borrow.Author.Rules.{rules}
 use Rattle.fault.proofs.write.head_octets.Goals as goal
 
 pub returns : goal.returns
-returns c = rw (c.total_size.ensures, c.bit.ensures.0, c.bit-2.ensures.0)
+returns c = rw (c.total_size.ensures, c.bit.ensures.value, c.bit-2.ensures.value)

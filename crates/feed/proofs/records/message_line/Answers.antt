@@ -20,7 +20,7 @@ answer-alone number kind o body k = rw (lt-leb 6 kind (omega (arith, eqb-true ki
 
 pub returns : goal.returns
 unfolding answered
-returns c k =    let s = c.args in
+returns c k = let s = c.args in
     let e = rw c.number_after-number.ensures at c.put_answer-written.ensures in
     let line = sym (answer-alone (numbered s.f.number) s.r.kind s.o (body_at s.input.now s.f s.r) k) in
     rw c.fed_on.ensures

@@ -6,7 +6,7 @@ use Rattle.fields.specs.Messages.{mep_read}
 use Rattle.fields.proofs.readers.mep_read.Goals as goal
 
 pub returns-in-Read : goal.returns-in-Read
-returns-in-Read c = ap (λ (a : MepAnswer). mep_read (mep_said a)) (sym c.a-1.given.1)
+returns-in-Read c = ap (λ (a : MepAnswer). mep_read (mep_said a)) (sym c.in-Read.is)
 
 pub returns-in-Refused : goal.returns-in-Refused
-returns-in-Refused c = rw c.no_mep-id.ensures (ap (λ (a : MepAnswer). mep_read (mep_said a)) (sym c.a-in-Refused-1.given.1))
+returns-in-Refused c = rw c.no_mep-id.ensures (ap (λ (a : MepAnswer). mep_read (mep_said a)) (sym c.in-Refused.is))

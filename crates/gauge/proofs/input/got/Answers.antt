@@ -8,9 +8,7 @@ pub returns-then-g : goal.returns-then-g
 returns-then-g c = let s = c.args in no_more s.g s.n s.buf.now c.if-g.true
 
 pub returns-then-begun : goal.returns-then-begun
-returns-then-begun c =    
-    
-    
+returns-then-begun c =
     let h = c in
     let f = h in
     let s = f.args in
@@ -19,9 +17,7 @@ returns-then-begun c =
     ∙ goes_on_lem s.g s.n s.buf.now f.if1.false h.advance.result h.advance.ensures h.hold.result h.hold.ensures began c.begin-begun.ensures
 
 pub returns : goal.returns
-returns c =    
-    
-    
+returns c =
     let s = c.args in
     let began : Gauged = record { gauge = c.begin-begun.result; buf = c.begin-begun.new.1.0 } in
     rests began c.if-begun.false

@@ -6,19 +6,15 @@ use Rattle.gauge.proofs.input.pace_on.Goals as goal
 
 -- what is left fits into the buffer that it was moved in
 pub slice_bounds-next_record-end : goal.slice_bounds-next_record-end
-slice_bounds-next_record-end c =    
-    
+slice_bounds-next_record-end c =
     moved-fits _ _ _ _ _ c.within-n.ensures.fits c.shift-have.ensures
 
 pub slice_bounds-next_record-end-2 : goal.slice_bounds-next_record-end-2
-slice_bounds-next_record-end-2 c =    
-    
+slice_bounds-next_record-end-2 c =
     sym (length-take-le c.shift-have.result c.shift-have.new.0 (moved-fits _ _ _ _ _ c.within-n.ensures.fits c.shift-have.ensures))
 
 pub returns : goal.returns
-returns c =    
-    
-    
+returns c =
     let a = c in
     let w = a in
     let s = w.args in

@@ -4,5 +4,5 @@ use Rattle.gauge.proofs.input.put_text.Goals as goal
 
 pub returns : goal.returns
 unfolding text_of
-returns c =    
+returns c =
     rw (← c.finish.ensures) c.put_spacing.ensures

@@ -7,9 +7,7 @@ use Rattle.gauge.proofs.words.put_bound.Goals as goal
 
 pub returns-then-there : goal.returns-then-there
 unfolding bound_words
-returns-then-there c =    
-    
-    
+returns-then-there c =
     let a = c in
     let s = a.args in
     let p : Put = record { buffer = s.out.now; at = s.at } in
@@ -17,5 +15,5 @@ returns-then-there c =
 
 pub returns : goal.returns
 unfolding bound_words
-returns c =    
+returns c =
     rw c.if-there.false c.put_words.ensures

@@ -5,22 +5,21 @@ use Rattle.capture.specs.Typing.{Put}
 use Rattle.capture.proofs.Typing.{then}
 use Rattle.gauge.specs.Words.{numbers_line}
 use Rattle.gauge.proofs.Signs.{as-bound, as_sums}
+use Rattle.gauge.proofs.words.put_numbers.Lts as lts
 use Rattle.gauge.proofs.words.put_numbers.Goals as goal
 
-least_fits : (c : tie.After-struct-told) → SFits w64 c.before.before.before.before.before.before.before.args.s.least
+least_fits : (c : lts.After-struct-told) → SFits w64 c.args.s.least
 least_fits c = search rules
 
-greatest-fits : (c : tie.After-struct-told2) → SFits w64 c.before.before.before.before.before.before.before.before.before.before.before.before.args.s.greatest
+greatest-fits : (c : lts.After-struct-told2) → SFits w64 c.args.s.greatest
 greatest-fits c = search rules
 
-sum_fits : (c : tie.After-struct-told3) → SFits w64 c.before.before.before.before.before.before.before.before.before.before.before.before.before.before.before.before.before.args.s.sum
+sum_fits : (c : lts.After-struct-told3) → SFits w64 c.args.s.sum
 sum_fits c = search rules
 
 pub returns : goal.returns
 unfolding numbers_line
-returns c =    
-    
-    
+returns c =
     let w = c in
     let s = w.args in
     let p : Put = record { buffer = s.out.now; at = s.at } in

@@ -21,9 +21,7 @@ module _ (z : ℤ) (fits : SFits w64 z) where
   size n e = rw (to_z-of_z w64 z fits) at e
 
 pub returns-then-z-lt0 : goal.returns-then-z-lt0
-returns-then-z-lt0 c =    
-    
-    
+returns-then-z-lt0 c =
     let n = c in
     let s = n in
     let p : Put = record { buffer = s.args.out.now; at = s.args.at } in
@@ -31,9 +29,7 @@ returns-then-z-lt0 c =
     (then p _ _ c.put_words-a.ensures c.put_decimal.ensures)
 
 pub returns : goal.returns
-returns c =    
-    
-    
+returns c =
     let s = c in
     rw (above-words s.args.z (test-held s.args.z s.ranges.z c.if-z-lt0.false), ← size s.args.z s.ranges.z c.type_size.result c.type_size.ensures)
     c.put_decimal-2.ensures

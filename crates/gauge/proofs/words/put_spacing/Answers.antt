@@ -5,10 +5,10 @@ use Rattle.gauge.proofs.words.put_spacing.Goals as goal
 
 pub returns-then-s-eq0 : goal.returns-then-s-eq0
 unfolding spacing_line
-returns-then-s-eq0 c =    
+returns-then-s-eq0 c =
     rw (eq-eqb _ _ c.if-s-eq0.true) c.put_numbers.ensures
 
 pub returns : goal.returns
 unfolding spacing_line
-returns c =    
+returns c =
     rw (ne_eqb _ _ c.if-s-eq0.false) c.Put-refused.ensures

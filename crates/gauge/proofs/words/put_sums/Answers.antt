@@ -7,9 +7,7 @@ use Rattle.gauge.proofs.words.put_sums.Goals as goal
 
 pub returns : goal.returns
 unfolding sum_words
-returns c =    
-    
-    
+returns c =
     let w = c in
     let v = w in
     let a = v in

@@ -24,20 +24,20 @@ enum_told-1 c = search rules
 
 pub returns-in-Set : goal.returns-in-Set
 unfolding sound_answer
-returns-in-Set c = rw (c.set_answer.ensures, c.found_by.ensures, c.q-1.given.1)
+returns-in-Set c = rw (c.set_answer.ensures, c.found_by.ensures, c.in-Set.is)
 
 pub returns-in-Ac : goal.returns-in-Ac
 unfolding sound_answer
-returns-in-Ac c = rw (c.named_answer.ensures, c.q-in-Ac-1.given.1)
+returns-in-Ac c = rw (c.named_answer.ensures, c.in-Ac.is)
 
 pub returns-in-Return : goal.returns-in-Return
 unfolding sound_answer
-returns-in-Return c = rw (c.named_answer-in-Return.ensures, c.q-in-Return-1.given.1)
+returns-in-Return c = rw (c.named_answer-in-Return.ensures, c.in-Return.is)
 
 pub returns-in-Heard : goal.returns-in-Heard
 unfolding sound_answer
-returns-in-Heard c = rw (c.heard_answer.ensures, c.takes_in.ensures, c.q-in-Heard-1.given.1)
+returns-in-Heard c = rw (c.heard_answer.ensures, c.takes_in.ensures, c.in-Heard.is)
 
 pub returns-in-Ask : goal.returns-in-Ask
 unfolding sound_answer
-returns-in-Ask c = rw (c.need.ensures, c.enum_told-1.given.1)
+returns-in-Ask c = rw (c.need.ensures, c.in-Ask.is)

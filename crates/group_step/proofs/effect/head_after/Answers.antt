@@ -24,20 +24,20 @@ enum_told-1 c = search rules
 
 pub returns-in-Set : goal.returns-in-Set
 unfolding head_after
-returns-in-Set c = rw (c.head_at.ensures, c.q-1.given.1)
+returns-in-Set c = rw (c.head_at.ensures, c.in-Set.is)
 
 pub returns-in-Ac : goal.returns-in-Ac
 unfolding head_after
-returns-in-Ac c = rw (c.head_at-in-Ac.ensures, c.q-in-Ac-1.given.1)
+returns-in-Ac c = rw (c.head_at-in-Ac.ensures, c.in-Ac.is)
 
 pub returns-in-Return : goal.returns-in-Return
 unfolding head_after
-returns-in-Return c = rw (c.head_at-in-Return.ensures, c.q-in-Return-1.given.1)
+returns-in-Return c = rw (c.head_at-in-Return.ensures, c.in-Return.is)
 
 pub returns-in-Heard : goal.returns-in-Heard
 unfolding head_after
-returns-in-Heard c = rw (c.head_at-in-Heard.ensures, c.q-in-Heard-1.given.1)
+returns-in-Heard c = rw (c.head_at-in-Heard.ensures, c.in-Heard.is)
 
 pub returns-in-Ask : goal.returns-in-Ask
 unfolding head_after
-returns-in-Ask c = rw c.enum_told-1.given.1
+returns-in-Ask c = rw c.in-Ask.is

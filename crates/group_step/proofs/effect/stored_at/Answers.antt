@@ -24,20 +24,20 @@ enum_told-in-Ask c = search rules
 
 pub returns-in-Set : goal.returns-in-Set
 unfolding stored_at
-returns-in-Set c = rw c.enum_told-1.given.1
+returns-in-Set c = rw c.in-Set.is
 
 pub returns-in-Ac : goal.returns-in-Ac
 unfolding stored_at
-returns-in-Ac c = rw c.enum_told-in-Ac-1.given.1
+returns-in-Ac c = rw c.in-Ac.is
 
 pub returns-in-Return : goal.returns-in-Return
 unfolding stored_at
-returns-in-Return c = rw c.enum_told-in-Return-1.given.1
+returns-in-Return c = rw c.in-Return.is
 
 pub returns-in-Heard : goal.returns-in-Heard
 unfolding stored_at
-returns-in-Heard c = rw c.enum_told-in-Heard-1.given.1
+returns-in-Heard c = rw c.in-Heard.is
 
 pub returns-in-Ask : goal.returns-in-Ask
 unfolding stored_at
-returns-in-Ask c = rw c.enum_told-in-Ask-1.given.1
+returns-in-Ask c = rw c.in-Ask.is

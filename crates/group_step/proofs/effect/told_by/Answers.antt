@@ -24,20 +24,20 @@ enum_told-in-Ask c = search rules
 
 pub returns-in-Set : goal.returns-in-Set
 unfolding told_by
-returns-in-Set c = rw (c.nothing_told.ensures, c.enum_told-1.given.1)
+returns-in-Set c = rw (c.nothing_told.ensures, c.in-Set.is)
 
 pub returns-in-Ac : goal.returns-in-Ac
 unfolding told_by
-returns-in-Ac c = rw (c.nothing_told-in-Ac.ensures, c.enum_told-in-Ac-1.given.1)
+returns-in-Ac c = rw (c.nothing_told-in-Ac.ensures, c.in-Ac.is)
 
 pub returns-in-Return : goal.returns-in-Return
 unfolding told_by
-returns-in-Return c = rw (c.nothing_told-in-Return.ensures, c.enum_told-in-Return-1.given.1)
+returns-in-Return c = rw (c.nothing_told-in-Return.ensures, c.in-Return.is)
 
 pub returns-in-Heard : goal.returns-in-Heard
 unfolding told_by
-returns-in-Heard c = rw (c.nothing_told-in-Heard.ensures, c.enum_told-in-Heard-1.given.1)
+returns-in-Heard c = rw (c.nothing_told-in-Heard.ensures, c.in-Heard.is)
 
 pub returns-in-Ask : goal.returns-in-Ask
 unfolding told_by
-returns-in-Ask c = rw (c.told_of.ensures, c.group_at.ensures, c.enum_told-in-Ask-1.given.1)
+returns-in-Ask c = rw (c.told_of.ensures, c.group_at.ensures, c.in-Ask.is)

@@ -10,7 +10,7 @@ use Rattle.index_file.proofs.blocks.finish.Goals as goal
 
 pub returns-then-x-eq0 : goal.returns-then-x-eq0
 unfolding finished_of
-returns-then-x-eq0 c =    let a = c.args in
+returns-then-x-eq0 c = let a = c.args in
     let octets = c.head_octets-o.ensures ∙ ap (λ (h : IndexHead). head_octets h []) c.head_built.ensures in
     let out = c.put_octets.ensures ∙ ap (sets a.out.now 0) octets in
     rw (eq-eqb a.x.answer 0 c.if-x-eq0.true) (λ i. record { size = c.place_of.ensures i; out = out i })

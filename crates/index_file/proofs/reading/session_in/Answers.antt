@@ -5,7 +5,7 @@ use Rattle.index_file.proofs.reading.session_in.Goals as goal
 
 pub returns : goal.returns
 unfolding session_in
-returns c =    let conditions = c.conditions_in.ensures ∙ ap conditions_in c.from_place.ensures in
+returns c = let conditions = c.conditions_in.ensures ∙ ap conditions_in c.from_place.ensures in
     let settings = c.settings_in.ensures ∙ ap settings_in c.from_place-2.ensures in
     let peer = c.peer_in.ensures ∙ ap peer_in c.from_place-3.ensures in
     λ i. record {

@@ -13,7 +13,7 @@ pub bounds-clocks-k : goal.bounds-clocks-k
 bounds-clocks-k c = omega (arith, c.loop-k.invariant.size)
 
 pub loop-k-preserved : goal.loop-k-preserved
-loop-k-preserved c =    let l = c.loop-k in
+loop-k-preserved c = let l = c.loop-k in
     let index = c.args.index.now in
     filled_more (clock_at index) 256 l.k l.clocks _ c.loop-k-test.true c.clock_at.ensures l.invariant
 

@@ -7,5 +7,5 @@ pub shape_of-out : goal.shape_of-out
 shape_of-out c = c.put_spaced.auto.0 ∙ c.put_spaced-f.auto.0 ∙ c.put_spaced-e.auto.0 ∙ c.put_spaced-d.auto.0 ∙ c.put_spaced-c.auto.0 ∙ c.put_spaced-b.auto.0 ∙ c.put_spaced-a.auto.0
 
 pub returns : goal.returns
-returns c =    let a = c.args in
+returns c = let a = c.args in
     seven (record { buffer = a.out.now; at = a.at }) a.r c.put_spaced-a.ensures c.put_spaced-b.ensures c.put_spaced-c.ensures c.put_spaced-d.ensures c.put_spaced-e.ensures c.put_spaced-f.ensures c.put_spaced.ensures

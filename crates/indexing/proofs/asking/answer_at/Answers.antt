@@ -10,6 +10,6 @@ use Rattle.indexing.proofs.asking.answer_at.Goals as goal
 
 pub returns : goal.returns
 unfolding answer_at
-returns c =    let a = c.args in
+returns c = let a = c.args in
     let e = c.read_to-e.ensures ∙ ap (λ (s : List ℕ). read_to 256 a.label a.reading s (record { session = a.s; clock = a.clock })) c.from_place.ensures in
     c.answer_from.ensures ∙ ap (λ (x : Ended). answer_from x a.reading a.looked) e

@@ -9,7 +9,7 @@ use Rattle.indexing.proofs.begin.begin_fill.Goals as goal
 
 pub returns : goal.returns
 unfolding begun_of
-returns c =    let a = c.args in
+returns c = let a = c.args in
     let counted = c.count_of-c.ensures in
     let answer = c.build_answer-answer.ensures ∙ ap (λ (n : Counted). or_else n.answer (bar (ltb a.room (entries_of n.count)) 13 0)) counted in
     let entries = c.entries_of.ensures ∙ ap (λ (n : Counted). entries_of n.count) counted in

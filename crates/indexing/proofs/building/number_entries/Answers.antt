@@ -21,7 +21,6 @@ said log l cs ps records room e₁ b e₂ f cs' ps' e₃ =
     ∙ (λ i. record { begun = same i; clocks = (note_all cs ps (same i).filling log).clocks; places = (note_all cs ps (same i).filling log).places })
 
 pub returns : goal.returns
-returns c =    
-    
+returns c =
     let a = c.args in
     said a.log.now a.label a.clocks.now a.places.now a.records _ c.room_of-room.ensures _ c.begin_fill-begun.ensures _ _ _ c.fill_numbers.ensures

@@ -9,7 +9,7 @@ use Rattle.call_log.proofs.Turns.{left-most}
 use Rattle.indexing.proofs.entries.next_entry.Goals as goal
 
 pub overflow_sub-result : goal.overflow_sub-result
-overflow_sub-result c =    let a = c.args in
+overflow_sub-result c = let a = c.args in
     let rest = c.from_place in
     omega (
       arith,
@@ -20,6 +20,6 @@ overflow_sub-result c =    let a = c.args in
     )
 
 pub returns : goal.returns
-returns c =    let a = c.args in
+returns c = let a = c.args in
     let e = c.read_to-e.ensures ∙ (λ i. read_to (c.reads_for.ensures i) a.x.label never (c.from_place.ensures i) a.x.point) in
     λ i. record { point = (e i).point; place = length a.log.now - (e i).left; at = c.onward.ensures i; count = a.x.count; label = a.x.label }

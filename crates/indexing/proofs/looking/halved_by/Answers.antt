@@ -14,9 +14,9 @@ by-earlier : (x : Search) → x.place < entry_of x → earlier x ≡ halved_by x
 by-earlier x h = rw (lt-leb (entry_of x) x.place h)
 
 pub returns-then-at-x : goal.returns-then-at-x
-returns-then-at-x c =    let x = c.args.x in
+returns-then-at-x c = let x = c.args.x in
     c.later.ensures ∙ by-later x (omega (arith, c.if-at-x.true, c.entry_of-at.ensures))
 
 pub returns : goal.returns
-returns c =    let x = c.args.x in
+returns c = let x = c.args.x in
     c.earlier.ensures ∙ by-earlier x (omega (arith, c.if-at-x.false, c.entry_of-at.ensures))

@@ -7,7 +7,7 @@ use Rattle.indexing.proofs.Looks.{by_look, is-looked, look-used, look-halved, lo
 use Rattle.indexing.proofs.looking.look_at.Goals as goal
 
 pub returns-then-x-lt2 : goal.returns-then-x-lt2
-returns-then-x-lt2 c =    
+returns-then-x-lt2 c =
     let a = c.args in
     let at = c.entry_of-at.ensures in
     let clock = c.number_at-clock.ensures ∙ ap (λ (n : ℕ). get_or a.clocks.now n 0) at in
@@ -17,7 +17,7 @@ returns-then-x-lt2 c =
     ∙ (λ i. by_look a.x a.s a.log.now (clock i) (place i)) ∙ is-looked a.x a.s a.log.now a.clocks.now a.places.now
 
 pub returns-then-entry_fits : goal.returns-then-entry_fits
-returns-then-entry_fits c =    
+returns-then-entry_fits c =
     let a = c.args in
     let at = c.entry_of-at.ensures in
     let clock = c.number_at-clock.ensures ∙ ap (λ (n : ℕ). get_or a.clocks.now n 0) at in
@@ -27,7 +27,7 @@ returns-then-entry_fits c =
     ∙ (λ i. by_look a.x a.s a.log.now (clock i) (place i)) ∙ is-looked a.x a.s a.log.now a.clocks.now a.places.now
 
 pub returns : goal.returns
-returns c =    
+returns c =
     let a = c.args in
     let at = c.entry_of-at.ensures in
     let clock = c.number_at-clock.ensures ∙ ap (λ (n : ℕ). get_or a.clocks.now n 0) at in

@@ -6,7 +6,7 @@ use Rattle.indexing.proofs.looking.search_from.Goals as goal
 
 pub returns : goal.returns
 unfolding search_from
-returns c =    
+returns c =
     let a = c.args in
     let refusal = c.ask_refusal-refusal.ensures ∙ ap (ask_refusal a.log.now a.head a.label a.reading) c.room_of-room.ensures in
     let f = c.find-f.ensures in

@@ -17,29 +17,24 @@ pub loop-i-init : goal.loop-i-init
 loop-i-init c = let a = c.args in (omega arith, omega arith, some-octets a.most a.s.now c.if-s-eq0.false)
 
 pub returns-then-not-is_digit : goal.returns-then-not-is_digit
-returns-then-not-is_digit c =    
-    
+returns-then-not-is_digit c =
     let a = c.args in
     let x = c.loop-i in
     let none = none_read x.n x.i a.s.now (omega arith) (sym c.is_digit.ensures ∙ not-true c.is_digit.result c.if-not-is_digit.true) in
     c.no_number-then-not-is_digit.ensures ∙ sym (x.invariant.2 ∙ ap (up_to a.most) none)
 
 pub overflow_sub-d : goal.overflow_sub-d
-overflow_sub-d c =    
-    
+overflow_sub-d c =
     let s = c.args.s.now in
     omega (arith, (digit-range (get_or s c.loop-i.i 0) (sym c.is_digit.ensures ∙ not-false c.is_digit.result c.if-not-is_digit.false)).0)
 
 pub overflow_cast-d : goal.overflow_cast-d
-overflow_cast-d c =    
-    
+overflow_cast-d c =
     let s = c.args.s.now in
     omega (arith, (digit-range (get_or s c.loop-i.i 0) (sym c.is_digit.ensures ∙ not-false c.is_digit.result c.if-not-is_digit.false)).1)
 
 pub returns-then-not-next : goal.returns-then-not-next
-returns-then-not-next c =    
-    
-    
+returns-then-not-next c =
     let l = c in
     let a = l.args in
     let x = l.loop in
@@ -48,9 +43,7 @@ returns-then-not-next c =
     c.no_number-then-not-next.ensures ∙ sym (x.invariant.2 ∙ ap (up_to a.most) digit ∙ too_large a.most _ _ over)
 
 pub loop-i-preserved : goal.loop-i-preserved
-loop-i-preserved c =    
-    
-    
+loop-i-preserved c =
     let a = c.args in
     let x = c.loop-i in
     let digit = digit-read x.n x.i a.s.now (omega arith) (sym c.is_digit.ensures ∙ not-false c.is_digit.result c.if-not-is_digit.false) in
@@ -59,7 +52,7 @@ loop-i-preserved c =
     (omega arith, omega (arith, fits.0, value), rw value (x.invariant.2 ∙ ap (up_to a.most) digit))
 
 pub returns : goal.returns
-returns c =    
+returns c =
     let a = c.args in
     let x = c.loop-i in
     sym (x.invariant.2 ∙ all_read a.most x.n x.i a.s.now x.invariant.1 c.loop-i-test.false)

@@ -5,9 +5,7 @@ use Rattle.inquiry.proofs.question.take_global.Goals as goal
 
 pub returns : goal.returns
 unfolding global_taken
-returns c =    
-    
-    
+returns c =
     let f = c in
     let n = f in
     c.only_if.ensures ∙ rw (c.with_thing.ensures, c.with_global.ensures, c.both-test.ensures, f.is_free.ensures, ← n.small-in.ensures)

@@ -7,9 +7,7 @@ use Rattle.inquiry.proofs.question.take_interface.Goals as goal
 
 pub returns : goal.returns
 unfolding interface_taken
-returns c =    
-    
-    
+returns c =
     let f = c in
     let b = f in
     let i = b in

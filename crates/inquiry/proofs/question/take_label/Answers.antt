@@ -5,4 +5,4 @@ use Rattle.inquiry.proofs.question.take_label.Goals as goal
 
 pub returns : goal.returns
 unfolding label_taken
-returns c =  c.only_if.ensures ∙ rw (c.with_label.ensures, ← c.small_in-n.ensures)
+returns c = c.only_if.ensures ∙ rw (c.with_label.ensures, ← c.small_in-n.ensures)

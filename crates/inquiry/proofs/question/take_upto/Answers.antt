@@ -5,6 +5,5 @@ use Rattle.inquiry.proofs.question.take_upto.Goals as goal
 
 pub returns : goal.returns
 unfolding upto_taken
-returns c =    
-    
+returns c =
     c.only_if.ensures ∙ rw (c.with_upto.ensures, c.both.ensures, c.number_in-n.ensures)

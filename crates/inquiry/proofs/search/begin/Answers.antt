@@ -8,15 +8,12 @@ pub returns-then-s : goal.returns-then-s
 returns-then-s c = let s = c.args in already s.s s.buf.now c.if-s.true
 
 pub returns-then-n-lt8 : goal.returns-then-n-lt8
-returns-then-n-lt8 c =    
-    
+returns-then-n-lt8 c =
     let s = c.args in
     waits s.s s.buf.now c.within-n.result c.within-n.ensures c.if-n-lt8.true ∙ not-begun s.s s.buf.now c.if-s.false
 
 pub returns-then-not-header_fits : goal.returns-then-not-header_fits
-returns-then-not-header_fits c =    
-    
-    
+returns-then-not-header_fits c =
     let b = c in
     let s = b.args in
     wrong s.s s.buf.now c.within-n.result c.within-n.ensures c.if-n-lt8.false
@@ -24,9 +21,7 @@ returns-then-not-header_fits c =
     ∙ not-begun s.s s.buf.now b.if1.false
 
 pub returns : goal.returns
-returns c =    
-    
-    
+returns c =
     let w = c in
     let b = w in
     let s = b.args in

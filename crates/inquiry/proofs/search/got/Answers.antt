@@ -8,9 +8,7 @@ pub returns-then-s : goal.returns-then-s
 returns-then-s c = let s = c.args in no_more s.s s.n s.buf.now s.kept.now c.if-s.true
 
 pub returns-then-begun : goal.returns-then-begun
-returns-then-begun c =    
-    
-    
+returns-then-begun c =
     let h = c in
     let f = h in
     let s = f.args in
@@ -19,9 +17,7 @@ returns-then-begun c =
     ∙ goes_on_lem s.s s.n s.buf.now s.kept.now f.if1.false h.advance.result h.advance.ensures h.hold.result h.hold.ensures began c.begin-begun.ensures
 
 pub returns : goal.returns
-returns c =    
-    
-    
+returns c =
     let s = c.args in
     let began : Begun = record { search = c.begin-begun.result; buf = c.begin-begun.new.1.0 } in
     rests began s.kept.now c.if-begun.false

@@ -4,18 +4,14 @@ use Rattle.inquiry.proofs.OneRead.{bad-text, good-text}
 use Rattle.inquiry.proofs.search.put_text.Goals as goal
 
 pub returns-then-s : goal.returns-then-s
-returns-then-s c =    
-    
-    
+returns-then-s c =
     let a = c in
     let s = a.args in
     let p : Put = record { buffer = s.out.now; at = 0 } in
     bad-text s.s s.buf.now s.kept.now s.thing p _ _ a.record-asked.result a.record-asked.ensures c.put_telling-at.ensures c.if-s.true c.put_bad_header.ensures
 
 pub returns : goal.returns
-returns c =    
-    
-    
+returns c =
     let d = c in
     let t = d in
     let a = t in

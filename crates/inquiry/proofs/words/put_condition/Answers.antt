@@ -6,9 +6,7 @@ use Rattle.inquiry.proofs.words.put_condition.Goals as goal
 
 pub returns : goal.returns
 unfolding condition_words
-returns c =    
-    
-    
+returns c =
     let w = c in
     let v = w in
     let u = v in

@@ -7,9 +7,7 @@ use Rattle.inquiry.proofs.words.put_mep.Goals as goal
 
 pub returns-then-id-eq0 : goal.returns-then-id-eq0
 unfolding mep_words
-returns-then-id-eq0 c =    
-    
-    
+returns-then-id-eq0 c =
     let w = c in
     let s = w.args in
     let p : Put = record { buffer = s.out.now; at = s.at } in
@@ -17,9 +15,7 @@ returns-then-id-eq0 c =
 
 pub returns-then-id-eq1 : goal.returns-then-id-eq1
 unfolding mep_words
-returns-then-id-eq1 c =    
-    
-    
+returns-then-id-eq1 c =
     let w = c in
     let v = w in
     let s = v.args in
@@ -28,9 +24,7 @@ returns-then-id-eq1 c =
 
 pub returns : goal.returns
 unfolding mep_words
-returns c =    
-    
-    
+returns c =
     let w = c in
     let v = w in
     let s = v.args in

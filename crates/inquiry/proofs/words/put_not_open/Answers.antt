@@ -4,9 +4,7 @@ use Rattle.capture.proofs.Typing.{then}
 use Rattle.inquiry.proofs.words.put_not_open.Goals as goal
 
 pub returns : goal.returns
-returns c =    
-    
-    
+returns c =
     let w = c in
     let v = w in
     let s = v.args in

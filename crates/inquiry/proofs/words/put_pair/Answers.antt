@@ -4,9 +4,7 @@ use Rattle.capture.proofs.Typing.{then}
 use Rattle.inquiry.proofs.words.put_pair.Goals as goal
 
 pub returns : goal.returns
-returns c =    
-    
-    
+returns c =
     let w = c in
     let s = w.args in
     let p : Put = record { buffer = s.out.now; at = s.at } in

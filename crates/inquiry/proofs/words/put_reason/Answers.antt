@@ -11,36 +11,29 @@ use Rattle.inquiry.proofs.words.put_reason.Goals as goal
 
 pub returns-in-Crossing : goal.returns-in-Crossing
 unfolding words_from
-returns-in-Crossing c =    
-    
-    
+returns-in-Crossing c =
     let w = c in
     let s = w.args in
     let p : Put = record { buffer = s.out.now; at = s.at } in
-    rw c.enum_told-1.given.1 (c.put_message.ensures ∙ ap (λ (o : List ℕ). typed p (message_words (message_of o))) c.part.ensures)
+    rw c.in-Crossing.is (c.put_message.ensures ∙ ap (λ (o : List ℕ). typed p (message_words (message_of o))) c.part.ensures)
 
 pub returns-in-Loss : goal.returns-in-Loss
 unfolding words_from
-returns-in-Loss c =    
-    
-    rw c.enum_told-in-Loss-1.given.1 c.put_timed.ensures
+returns-in-Loss c =
+    rw c.in-Loss.is c.put_timed.ensures
 
 pub returns-in-Condition : goal.returns-in-Condition
 unfolding words_from
-returns-in-Condition c =    
-    
-    
+returns-in-Condition c =
     let w = c in
     let s = w.args in
     let p : Put = record { buffer = s.out.now; at = s.at } in
-    rw c.thing-1.given.1 (c.put_condition.ensures ∙ ap (λ (k : Candidate). typed p (place_words k.place)) c.best_of_key-named.ensures)
+    rw c.in-Condition.is (c.put_condition.ensures ∙ ap (λ (k : Candidate). typed p (place_words k.place)) c.best_of_key-named.ensures)
 
 pub returns-in-HeldBack : goal.returns-in-HeldBack
 unfolding words_from
-returns-in-HeldBack c =    
-    
-    
+returns-in-HeldBack c =
     let w = c in
     let s = w.args in
     let p : Put = record { buffer = s.out.now; at = s.at } in
-    rw c.enum_told-in-HeldBack-1.given.1 (c.put_condition-in-HeldBack.ensures ∙ ap (λ (k : Candidate). typed p (place_words k.place)) c.best_standing-held.ensures)
+    rw c.in-HeldBack.is (c.put_condition-in-HeldBack.ensures ∙ ap (λ (k : Candidate). typed p (place_words k.place)) c.best_standing-held.ensures)

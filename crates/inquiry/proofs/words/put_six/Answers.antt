@@ -6,9 +6,7 @@ use Rattle.inquiry.proofs.words.put_six.Goals as goal
 
 pub returns : goal.returns
 unfolding padded
-returns c =    
-    
-    
+returns c =
     let w = c in
     let v = w in
     let u = v in

@@ -5,12 +5,10 @@ use Rattle.inquiry.proofs.words.put_telling.Goals as goal
 
 pub returns-then-f : goal.returns-then-f
 unfolding telling_from telling
-returns-then-f c =    
-    
+returns-then-f c =
     rw c.if-f.true c.put_answer.ensures
 
 pub returns : goal.returns
 unfolding telling_from telling
-returns c =    
-    
+returns c =
     rw c.if-f.false c.Put-refused.ensures

@@ -10,7 +10,7 @@ use Rattle.live.proofs.answer.live_answer.Goals as goal
 
 pub returns-then-n-eq0 : goal.returns-then-n-eq0
 unfolding answer_of
-returns-then-n-eq0 c =    
+returns-then-n-eq0 c =
     let a = c.args in
     c.cause_live.ensures
     ∙ sym (ap (λ (n : ℕ). cond (eqb n 0) (cause_live a.r a.now (thing_of a.q)) (refused n)) (sym c.table_refusal-n.ensures ∙ c.if-n-eq0.true))

@@ -3,9 +3,7 @@ use Rattle.pump.proofs.Failing.{six}
 use Rattle.pump.proofs.failures.put_failure.Goals as goal
 
 pub returns : goal.returns
-returns c =    
-    
-    
+returns c =
     let b = c in
     let a = b in
     let z = a in

@@ -16,8 +16,7 @@ pub loop-j-init : goal.loop-j-init
 loop-j-init c = (omega arith, omega arith, refl, refl)
 
 pub loop-j-preserved : goal.loop-j-preserved
-loop-j-preserved c =    let l = c.loop-j in
-    
+loop-j-preserved c = let l = c.loop-j in
     let a = c.args in
     let j = l.invariant.0 in
     (omega arith, omega (arith, between-length a.buf.now a.from a.to c.requires), length-set l.buf l.i _ ∙ l.invariant.2, moves a.buf.now a.from a.to c.requires l.buf l.i l.j j l.invariant.3 (omega arith))
@@ -26,8 +25,7 @@ pub shape_of-buf : goal.shape_of-buf
 shape_of-buf c = c.loop-j.invariant.2
 
 pub returns : goal.returns
-returns c =    let l = c.loop-j in
-    
+returns c = let l = c.loop-j in
     let a = c.args in
     let n = between-length a.buf.now a.from a.to c.requires in
     record { count = omega (arith, n); moved = l.invariant.3 ∙ moved_all a.buf.now a.from a.to c.requires l.i (omega arith) }

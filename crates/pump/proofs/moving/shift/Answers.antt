@@ -16,7 +16,6 @@ as-far buf from to n r after w s =
     }
 
 pub returns : goal.returns
-returns c =    
-    
+returns c =
     let s = c.args in
     as-far s.buf.now s.from s.to c.within-n.result c.move_within.result _ c.within-n.ensures c.move_within.ensures

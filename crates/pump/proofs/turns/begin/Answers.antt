@@ -8,16 +8,13 @@ pub returns-then-p : goal.returns-then-p
 returns-then-p c = let s = c.args in already s.p s.buf.now s.out.now c.if-p.true
 
 pub returns-then-is_waiting : goal.returns-then-is_waiting
-returns-then-is_waiting c =    
-    
+returns-then-is_waiting c =
     let s = c.args in
     waits s.p s.buf.now s.out.now c.within-n.result c.within-n.ensures (sym c.is_waiting.ensures ∙ c.if-is_waiting.true)
     ∙ not-begun s.p s.buf.now s.out.now c.if-p.false
 
 pub returns-then-not-header_fits : goal.returns-then-not-header_fits
-returns-then-not-header_fits c =    
-    
-    
+returns-then-not-header_fits c =
     let w = c in
     let b = w in
     let s = b.args in
@@ -26,9 +23,7 @@ returns-then-not-header_fits c =
     ∙ not-begun s.p s.buf.now s.out.now b.if1.false
 
 pub returns : goal.returns
-returns c =    
-    
-    
+returns c =
     let w = c in
     let b = w in
     let s = b.args in

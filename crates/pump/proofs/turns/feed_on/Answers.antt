@@ -5,9 +5,7 @@ use Rattle.pump.proofs.Turning.{none-fed}
 use Rattle.pump.proofs.turns.feed_on.Goals as goal
 
 pub returns : goal.returns
-returns c =    
-    
-    
+returns c =
     let w = c in
     let s = w.args in
     c.unfed.ensures

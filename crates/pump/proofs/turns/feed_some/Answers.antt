@@ -4,18 +4,14 @@ use Rattle.pump.proofs.Turning.{lines, took-none}
 use Rattle.pump.proofs.turns.feed_some.Goals as goal
 
 pub returns-then-used-gt0 : goal.returns-then-used-gt0
-returns-then-used-gt0 c =    
-    
-    
+returns-then-used-gt0 c =
     let w = c in
     let s = w.args in
     lines s.p s.buf.now s.out.now w.within.result w.within.ensures c.at_front.result c.feed-table.result c.feed-table.new.1.1.0 c.at_front.ensures c.feed-table.ensures
     c.if-used-gt0.true c.shift-have.result c.shift-have.new.0 c.shift-have.ensures
 
 pub returns : goal.returns
-returns c =    
-    
-    
+returns c =
     let a = c in
     let w = a in
     let s = w.args in

@@ -5,5 +5,5 @@ use Rattle.rules.specs.Modes.{input_in}
 use Rattle.rules.proofs.modes.input_in.Goals as goal
 
 pub returns-in-Source : goal.returns-in-Source
-returns-in-Source c =    let a = c.args in
-    c.source_input.ensures ∙ ap (λ (m : Mode). input_in m a.from a.input) (sym c.enum_told-in-Source-1.given.1)
+returns-in-Source c = let a = c.args in
+    c.source_input.ensures ∙ ap (λ (m : Mode). input_in m a.from a.input) (sym c.in-Source.is)

@@ -14,7 +14,7 @@ pub loop-i-init : goal.loop-i-init
 loop-i-init c = (omega arith, sym (any-take-none (eqb c.args.number) c.args.numbers.now))
 
 pub loop-i-preserved : goal.loop-i-preserved
-loop-i-preserved c =    let a = c.args in
+loop-i-preserved c = let a = c.args in
     let l = c.loop-i in
     let h : l.i < length a.numbers.now = omega arith in
     let more = any-take-more (eqb a.number) a.numbers.now l.i h in (
@@ -26,6 +26,6 @@ loop-i-preserved c =    let a = c.args in
     )
 
 pub returns : goal.returns
-returns c =    let a = c.args in
+returns c = let a = c.args in
     let l = c.loop-i in
     l.invariant.1 ∙ any-take-all (eqb a.number) a.numbers.now l.i (omega arith)

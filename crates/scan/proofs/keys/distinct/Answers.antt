@@ -15,12 +15,12 @@ use Rattle.scan.proofs.keys.distinct.Goals as goal
 
 pub loop-i-init : goal.loop-i-init
 unfolding filled numbers once any
-loop-i-init c =    let a = c.args in
+loop-i-init c = let a = c.args in
     let e = c.reach.ensures in
     (omega arith, (rw (← e) c.least-n.ensures, (omega (arith, c.least-n.ensures, e, reach-most a.occupied), ((seen_none, seen_none), (refl, refl)))))
 
 pub returns-then-key_stands : goal.returns-then-key_stands
-returns-then-key_stands c =    let a = c.args in
+returns-then-key_stands c = let a = c.args in
     let l = c.loop-i in
     let h : l.i < length a.pairs.now = omega arith in
     let k : l.i < reach_of a.occupied = omega arith in
@@ -33,7 +33,7 @@ returns-then-key_stands c =    let a = c.args in
     (sym (stands-either a.pairs.now l.i pair) ∙ sym c.key_stands.ensures ∙ c.if-key_stands.true))
 
 pub loop-i-preserved : goal.loop-i-preserved
-loop-i-preserved c =    let a = c.args in
+loop-i-preserved c = let a = c.args in
     let l = c.loop-i in
     let h : l.i < length a.pairs.now = omega arith in
     let k : l.i < 64 = omega arith in
@@ -86,7 +86,7 @@ loop-i-preserved c =    let a = c.args in
     (omega arith, (l.invariant.1.0, (l.invariant.1.1.0, rest)))
 
 pub returns : goal.returns
-returns c =    let a = c.args in
+returns c = let a = c.args in
     let l = c.loop-i in
     let e : l.i ≡ min (reach_of a.occupied) (length a.pairs.now) = omega arith in
     let apart = l.invariant.1.1.1.1 in

@@ -16,13 +16,13 @@ pub loop-i-init : goal.loop-i-init
 loop-i-init c = (omega arith, unfold filled once in refl)
 
 pub returns-then-stands_before : goal.returns-then-stands_before
-returns-then-stands_before c =    let a = c.args in
+returns-then-stands_before c = let a = c.args in
     let l = c.loop-i in
     let h : l.i < length a.keys.now = omega arith in
     sym (twice-noted a.keys.now l.i h c.if-key-ne0.true (sym c.stands_before.ensures ∙ c.if-stands_before.true))
 
 pub loop-i-preserved : goal.loop-i-preserved
-loop-i-preserved c =    let a = c.args in
+loop-i-preserved c = let a = c.args in
     let l = c.loop-i in
     let h : l.i < length a.keys.now = omega arith in (
       omega arith,
@@ -34,6 +34,6 @@ loop-i-preserved c =    let a = c.args in
 
 pub returns : goal.returns
 unfolding once_in
-returns c =    let a = c.args in
+returns c = let a = c.args in
     let l = c.loop-i in
     sym (ap (λ ks. once eqb (filled ks)) (sym (take_all l.i a.keys.now (omega arith))) ∙ l.invariant.1)

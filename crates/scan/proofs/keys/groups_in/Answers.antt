@@ -10,6 +10,6 @@ pub returns-then-noted-le64 : goal.returns-then-noted-le64
 returns-then-noted-le64 c = sym (drop_of_length-le c.args.noted.now c.if-noted-le64.true)
 
 pub returns : goal.returns
-returns c =    let s = c.args.noted.now in
+returns c = let s = c.args.noted.now in
     let all : length (drop 64 s) ≤ length s - 64 = omega (arith, length-drop 64 s) in
     take_all (length s - 64) (drop 64 s) all

@@ -17,11 +17,11 @@ abbrev test : ℕ → ℕ → Bool
 test key p = eqb (key_in false p) key
 
 pub loop-i-init : goal.loop-i-init
-loop-i-init c =    let a = c.args in
+loop-i-init c = let a = c.args in
     (omega arith, (rw (← c.reach.ensures) c.least-n.ensures, sym (any-take-none (test a.key) a.pairs.now)))
 
 pub loop-i-preserved : goal.loop-i-preserved
-loop-i-preserved c =    let a = c.args in
+loop-i-preserved c = let a = c.args in
     let l = c.loop-i in
     let h : l.i < length a.pairs.now = omega arith in
     let e = c.own_in.ensures in
@@ -37,7 +37,7 @@ loop-i-preserved c =    let a = c.args in
     )
 
 pub returns : goal.returns
-returns c =    let a = c.args in
+returns c = let a = c.args in
     let l = c.loop-i in
     let e : l.i ≡ min (reach_of a.occupied) (length a.pairs.now) = omega arith in
     l.invariant.1.1 ∙ ap (λ (k : ℕ). any (test a.key) (take k a.pairs.now)) e ∙ ap (any (test a.key)) (take-most a.pairs.now (reach_of a.occupied))

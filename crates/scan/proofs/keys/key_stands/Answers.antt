@@ -25,17 +25,17 @@ one_more true b c e = λ i. true
 one_more false b c e = sym (rw e)
 
 pub loop-i-init : goal.loop-i-init
-loop-i-init c =    let a = c.args in (
-      omega arith,
-      (
-        c.least-n.ensures,
-        rw (c.either-found.ensures, c.own_in.ensures, c.label_in.ensures)
-            (or-none (no_key a.pair) ∙ ap (λ (b : Bool). no_key a.pair || b) (sym (any-take-none (alike a.pair) a.pairs.now))),
-      ),
-    )
+loop-i-init c = let a = c.args in (
+  omega arith,
+  (
+    c.least-n.ensures,
+    rw (c.either-found.ensures, c.own_in.ensures, c.label_in.ensures)
+        (or-none (no_key a.pair) ∙ ap (λ (b : Bool). no_key a.pair || b) (sym (any-take-none (alike a.pair) a.pairs.now))),
+  ),
+)
 
 pub loop-i-preserved : goal.loop-i-preserved
-loop-i-preserved c =    let a = c.args in
+loop-i-preserved c = let a = c.args in
     let l = c.loop-i in
     let h : l.i < length a.pairs.now = omega arith in
     let e = c.is_alike.ensures in
@@ -54,7 +54,7 @@ loop-i-preserved c =    let a = c.args in
 
 pub returns : goal.returns
 unfolding key_stands
-returns c =    let a = c.args in
+returns c = let a = c.args in
     let l = c.loop-i in
     let e : l.i ≡ min a.end (length a.pairs.now) = omega arith in
     l.invariant.1.1

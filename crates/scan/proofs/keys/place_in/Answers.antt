@@ -13,14 +13,14 @@ pub returns-then-label-eq0 : goal.returns-then-label-eq0
 returns-then-label-eq0 c = let a = c.args in sym (place-zero a.label a.occupied a.pairs.now c.if-label-eq0.true)
 
 pub loop-i-init : goal.loop-i-init
-loop-i-init c =    let a = c.args in
+loop-i-init c = let a = c.args in
     (omega arith, (rw (length-take, ← c.reach.ensures) c.least-n.ensures, with_none a.label (reached a.occupied a.pairs.now)))
 
 pub bounds-pairs-i : goal.bounds-pairs-i
 bounds-pairs-i c = let a = c.args in omega (arith, length-take (reach_of a.occupied) a.pairs.now)
 
 pub returns-then-label_in-label : goal.returns-then-label_in-label
-returns-then-label_in-label c =    let a = c.args in
+returns-then-label_in-label c = let a = c.args in
     let l = c.loop-i in
     let none = c.if-label-eq0.false in
     let h : l.i < length (reached a.occupied a.pairs.now) = omega arith in
@@ -30,7 +30,7 @@ returns-then-label_in-label c =    let a = c.args in
     sym (place_found a.label a.occupied a.pairs.now l.i none (omega (arith, l.invariant.1.1, e)) h)
 
 pub loop-i-preserved : goal.loop-i-preserved
-loop-i-preserved c =    let a = c.args in
+loop-i-preserved c = let a = c.args in
     let l = c.loop-i in
     let h : l.i < length (reached a.occupied a.pairs.now) = omega arith in
     let k : l.i < reach_of a.occupied = omega (arith, length-take (reach_of a.occupied) a.pairs.now) in
@@ -39,7 +39,7 @@ loop-i-preserved c =    let a = c.args in
     (omega arith, (l.invariant.1.0, omega (arith, l.invariant.1.1, e)))
 
 pub returns : goal.returns
-returns c =    let a = c.args in
+returns c = let a = c.args in
     let l = c.loop-i in
     let none = c.if-label-eq0.false in
     sym (place_none a.label a.occupied a.pairs.now none (omega (arith, l.invariant.1.1)))

@@ -12,11 +12,11 @@ use Rattle.scan.proofs.KeyMarks.{any-take-none, any-take-more, take-most}
 use Rattle.scan.proofs.keys.stands_before.Goals as goal
 
 pub loop-i-init : goal.loop-i-init
-loop-i-init c =    let a = c.args in
+loop-i-init c = let a = c.args in
     (omega arith, (c.least-n.ensures, sym (any-take-none (eqb a.key) a.keys.now)))
 
 pub loop-i-preserved : goal.loop-i-preserved
-loop-i-preserved c =    let a = c.args in
+loop-i-preserved c = let a = c.args in
     let l = c.loop-i in
     let h : l.i < length a.keys.now = omega arith in
     let x = get_or a.keys.now l.i 0 in
@@ -33,7 +33,7 @@ loop-i-preserved c =    let a = c.args in
     )
 
 pub returns : goal.returns
-returns c =    let a = c.args in
+returns c = let a = c.args in
     let l = c.loop-i in
     let e : l.i ≡ min a.end (length a.keys.now) = omega arith in
     l.invariant.1.1 ∙ ap (λ (k : ℕ). any (eqb a.key) (take k a.keys.now)) e ∙ ap (any (eqb a.key)) (take-most a.keys.now a.end)

@@ -28,7 +28,7 @@ pub overflow_add-theirs : goal.overflow_add-theirs
 overflow_add-theirs c = omega (arith, c.theirs_one-theirs.ensures, party-most c.label_in.result)
 
 pub loop-i-preserved : goal.loop-i-preserved
-loop-i-preserved c =    let a = c.args in
+loop-i-preserved c = let a = c.args in
     let l = c.loop-i in
     let h : l.i < length a.pairs.now = omega arith in
     let pair = get_or a.pairs.now l.i 0 in
@@ -37,6 +37,6 @@ loop-i-preserved c =    let a = c.args in
     (omega arith, (omega (arith, one, party-most (key_in true pair)), omega (arith, one, more, l.invariant.1.1)))
 
 pub returns : goal.returns
-returns c =    let a = c.args in
+returns c = let a = c.args in
     let l = c.loop-i in
     l.invariant.1.1 ∙ ap (count test) (take_all l.i a.pairs.now (omega arith))

@@ -6,7 +6,7 @@ use Rattle.scan.proofs.passing.take_in.Goals as goal
 
 pub returns-then-r-eq1 : goal.returns-then-r-eq1
 unfolding taken_in noted noted_open
-returns-then-r-eq1 c =    let a = c.args in
+returns-then-r-eq1 c = let a = c.args in
     let on = eq-eqb (a.s.rest % 2) 1 c.if-s-eq1.true in
     let sound = c.session_sound.ensures in
     let group = eq-eqb a.r.group.set 1 c.if-r-eq1.true in (
@@ -16,7 +16,7 @@ returns-then-r-eq1 c =    let a = c.args in
 
 pub returns-then-session_sound : goal.returns-then-session_sound
 unfolding taken_in noted noted_open
-returns-then-session_sound c =    let a = c.args in
+returns-then-session_sound c = let a = c.args in
     let on = eq-eqb (a.s.rest % 2) 1 c.if-s-eq1.true in
     let sound = c.session_sound.ensures in
     let group = ne_eqb a.r.group.set 1 c.if-r-eq1.false in (
@@ -26,12 +26,12 @@ returns-then-session_sound c =    let a = c.args in
 
 pub returns-then-s-eq1 : goal.returns-then-s-eq1
 unfolding taken_in noted
-returns-then-s-eq1 c =    let on = eq-eqb (c.args.s.rest % 2) 1 c.if-s-eq1.true in (
-      rw (c.failed_at.ensures, on, ← c.session_sound.ensures, c.if-session_sound.false),
-      rw (on, ← c.session_sound.ensures, c.if-session_sound.false),
-    )
+returns-then-s-eq1 c = let on = eq-eqb (c.args.s.rest % 2) 1 c.if-s-eq1.true in (
+  rw (c.failed_at.ensures, on, ← c.session_sound.ensures, c.if-session_sound.false),
+  rw (on, ← c.session_sound.ensures, c.if-session_sound.false),
+)
 
 pub returns : goal.returns
 unfolding taken_in noted
-returns c =    let off = ne_eqb (c.args.s.rest % 2) 1 c.if-s-eq1.false in
+returns c = let off = ne_eqb (c.args.s.rest % 2) 1 c.if-s-eq1.false in
     (rw (c.passed_by-2.ensures, off), rw off)

@@ -7,18 +7,18 @@ use borrow.Author.Rules.{rules}
 use Rattle.session.proofs.acts.cc_act.Goals as goal
 
 pub returns-then-n-ne0 : goal.returns-then-n-ne0
-returns-then-n-ne0 c =    let a = c.args in
+returns-then-n-ne0 c = let a = c.args in
     c.refused.ensures ∙ cc-refused a.s a.m.now a.reading _ (c.refusal_for-n.ensures ∙ ap (λ (n : ℕ). or_else n (bfd_answer a.s)) c.cc_body_refusal.ensures) c.if-n-ne0.true
 
 pub returns-then-is_foreign : goal.returns-then-is_foreign
-returns-then-is_foreign c =    let a = c.args in
+returns-then-is_foreign c = let a = c.args in
     let none = sym (c.refusal_for-n.ensures ∙ ap (λ (n : ℕ). or_else n (bfd_answer a.s)) c.cc_body_refusal.ensures) ∙ c.if-n-ne0.false in
     let crossed : c.is_foreign.result ≡ cc_crosses a.s a.m.now =
     c.is_foreign.ensures ∙ rw c.packet_of-p.ensures in
     c.accepted.ensures ∙ rw c.crossed_live.ensures (cc-crossed a.s a.m.now a.reading none (sym crossed ∙ c.if-is_foreign.true))
 
 pub returns : goal.returns
-returns c =    let a = c.args in
+returns c = let a = c.args in
     let none = sym (c.refusal_for-n.ensures ∙ ap (λ (n : ℕ). or_else n (bfd_answer a.s)) c.cc_body_refusal.ensures) ∙ c.if-n-ne0.false in
     let crossed : c.is_foreign.result ≡ cc_crosses a.s a.m.now =
     c.is_foreign.ensures ∙ rw c.packet_of-p.ensures in

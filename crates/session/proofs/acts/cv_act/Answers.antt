@@ -8,11 +8,11 @@ use borrow.Author.Rules.{rules}
 use Rattle.session.proofs.acts.cv_act.Goals as goal
 
 pub returns-then-n-ne0 : goal.returns-then-n-ne0
-returns-then-n-ne0 c =    let a = c.args in
+returns-then-n-ne0 c = let a = c.args in
     c.refused.ensures ∙ cv-refused a.s a.m.now a.reading _ (c.refusal_for-n.ensures ∙ ap (λ (n : ℕ). or_else n (bfd_answer a.s)) c.cv_body_refusal.ensures) c.if-n-ne0.true
 
 pub returns-then-cv_crosses : goal.returns-then-cv_crosses
-returns-then-cv_crosses c =    let a = c.args in
+returns-then-cv_crosses c = let a = c.args in
     let none = sym (c.refusal_for-n.ensures ∙ ap (λ (n : ℕ). or_else n (bfd_answer a.s)) c.cv_body_refusal.ensures) ∙ c.if-n-ne0.false in
     let crossed : c.cv_crosses.result ≡ cv_crosses a.s a.m.now =
     c.cv_crosses.ensures
@@ -20,7 +20,7 @@ returns-then-cv_crosses c =    let a = c.args in
     c.accepted.ensures ∙ rw c.crossed_live.ensures (cv-crossed a.s a.m.now a.reading none (sym crossed ∙ c.if-cv_crosses.true))
 
 pub returns : goal.returns
-returns c =    let a = c.args in
+returns c = let a = c.args in
     let none = sym (c.refusal_for-n.ensures ∙ ap (λ (n : ℕ). or_else n (bfd_answer a.s)) c.cv_body_refusal.ensures) ∙ c.if-n-ne0.false in
     let crossed : c.cv_crosses.result ≡ cv_crosses a.s a.m.now =
     c.cv_crosses.ensures

@@ -15,11 +15,11 @@ abbrev answered : FaultAnswer → Answer Fault
 answered a = answer-of (said a)
 
 pub returns-in-Read : goal.returns-in-Read
-returns-in-Read c =    let a = c.args in
-    let r : accepted _ ≡ read_fault a.m.now = ap answered (sym c.a-1.given.1) ∙ ap answer-of c.read_fault-a.ensures in
+returns-in-Read c = let a = c.args in
+    let r : accepted _ ≡ read_fault a.m.now = ap answered (sym c.in-Read.is) ∙ ap answer-of c.read_fault-a.ensures in
     c.fault_by.ensures ∙ fault-read a.s a.m.now a.reading _ r
 
 pub returns-in-Refused : goal.returns-in-Refused
-returns-in-Refused c =    let a = c.args in
-    let r : refused _ ≡ read_fault a.m.now = ap answered (sym c.a-in-Refused-1.given.1) ∙ ap answer-of c.read_fault-a.ensures in
+returns-in-Refused c = let a = c.args in
+    let r : refused _ ≡ read_fault a.m.now = ap answered (sym c.in-Refused.is) ∙ ap answer-of c.read_fault-a.ensures in
     c.fault_refused.ensures ∙ fault-refused a.s a.m.now a.reading _ r

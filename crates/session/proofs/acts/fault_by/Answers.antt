@@ -7,10 +7,10 @@ use Rattle.session.proofs.acts.fault_by.Goals as goal
 
 pub returns-then-v-ne0 : goal.returns-then-v-ne0
 unfolding fault_taken
-returns-then-v-ne0 c =    let e = ap (λ (v : Verdict). v.answer) c.take_fault-v.ensures in
+returns-then-v-ne0 c = let e = ap (λ (v : Verdict). v.answer) c.take_fault-v.ensures in
     c.fault_refused.ensures ∙ rw (← e, ne_eqb _ _ c.if-v-ne0.true)
 
 pub returns : goal.returns
 unfolding fault_taken
-returns c =    let e = ap (λ (v : Verdict). v.answer) c.take_fault-v.ensures in
+returns c = let e = ap (λ (v : Verdict). v.answer) c.take_fault-v.ensures in
     rw (← e, c.if-v-ne0.false, c.take_fault-v.ensures, c.fault_state-state.ensures, c.pw_at.ensures)

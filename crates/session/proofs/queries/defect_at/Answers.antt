@@ -10,19 +10,19 @@ returns-then-crossing_at c = rw (← c.crossing_at.ensures, c.if-crossing_at.tru
 
 pub returns-then-four_empty : goal.returns-then-four_empty
 unfolding defect_at
-returns-then-four_empty c =    
+returns-then-four_empty c =
     let a = c.args in
     rw (← c.crossing_at.ensures, c.if-crossing_at.false)
     (sym (none-followed a.s.settings.followlink a.s.settings.followlock a.s.conditions a.now (sym c.four_empty.ensures ∙ c.if-four_empty.true)))
 
 pub returns-then-any_marked : goal.returns-then-any_marked
 unfolding defect_at
-returns-then-any_marked c =    
+returns-then-any_marked c =
     rw (← c.crossing_at.ensures, c.if-crossing_at.false) c.any_followed.ensures
 
 pub returns : goal.returns
 unfolding defect_at
-returns c =    
+returns c =
     let a = c.args in
     rw (← c.crossing_at.ensures, c.if-crossing_at.false)
     (sym (none-marked a.s.settings.followlink a.s.settings.followlock a.s.conditions a.now (sym c.any_marked.ensures ∙ c.if-any_marked.false)))

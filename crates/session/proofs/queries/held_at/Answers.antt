@@ -9,10 +9,10 @@ use Rattle.session.proofs.queries.held_at.Goals as goal
 
 pub returns-then-s-ne0 : goal.returns-then-s-ne0
 unfolding held_at
-returns-then-s-ne0 c =    let a = c.args in
+returns-then-s-ne0 c = let a = c.args in
     ap (λ (b : Bool). b && defect_at a.s a.now) (sym (not-coordinated a.s.settings.mode c.if-s-ne0.true))
 
 pub returns : goal.returns
 unfolding held_at
-returns c =    let a = c.args in
+returns c = let a = c.args in
     c.defect_at.ensures ∙ ap (λ (n : ℕ). is_coordinated (mode_of n) && defect_at a.s a.now) (sym c.if-s-ne0.false)

@@ -32,28 +32,28 @@ enum_told-in-WriteCv c = search rules
 
 pub returns-in-Tick : goal.returns-in-Tick
 unfolding effect_on
-returns-in-Tick c = rw c.enum_told-1.given.1
+returns-in-Tick c = rw c.in-Tick.is
 
 pub returns-in-Close : goal.returns-in-Close
 unfolding effect_on
-returns-in-Close c = rw c.enum_told-in-Close-1.given.1
+returns-in-Close c = rw c.in-Close.is
 
 pub returns-in-Lock : goal.returns-in-Lock
 unfolding effect_on
-returns-in-Lock c = rw (c.locked_at.ensures, c.q-1.given.1)
+returns-in-Lock c = rw (c.locked_at.ensures, c.in-Lock.is)
 
 pub returns-in-Unlock : goal.returns-in-Unlock
 unfolding effect_on
-returns-in-Unlock c = rw (c.unlocked_at.ensures, c.q-in-Unlock-1.given.1)
+returns-in-Unlock c = rw (c.unlocked_at.ensures, c.in-Unlock.is)
 
 pub returns-in-ReportOn : goal.returns-in-ReportOn
 unfolding effect_on
-returns-in-ReportOn c = rw c.enum_told-in-ReportOn-1.given.1
+returns-in-ReportOn c = rw c.in-ReportOn.is
 
 pub returns-in-WriteCc : goal.returns-in-WriteCc
 unfolding effect_on
-returns-in-WriteCc c = rw (c.cc_written.ensures, c.enum_told-in-WriteCc-1.given.1)
+returns-in-WriteCc c = rw (c.cc_written.ensures, c.in-WriteCc.is)
 
 pub returns-in-WriteCv : goal.returns-in-WriteCv
 unfolding effect_on
-returns-in-WriteCv c = rw c.enum_told-in-WriteCv-1.given.1
+returns-in-WriteCv c = rw c.in-WriteCv.is

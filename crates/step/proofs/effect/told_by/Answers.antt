@@ -32,28 +32,28 @@ enum_told-in-WriteCv c = search rules
 
 pub returns-in-Tick : goal.returns-in-Tick
 unfolding told_by
-returns-in-Tick c = rw (c.nothing_told.ensures, c.enum_told-1.given.1)
+returns-in-Tick c = rw (c.nothing_told.ensures, c.in-Tick.is)
 
 pub returns-in-Close : goal.returns-in-Close
 unfolding told_by
-returns-in-Close c = rw (c.nothing_told-in-Close.ensures, c.enum_told-in-Close-1.given.1)
+returns-in-Close c = rw (c.nothing_told-in-Close.ensures, c.in-Close.is)
 
 pub returns-in-Lock : goal.returns-in-Lock
 unfolding told_by
-returns-in-Lock c = rw (c.nothing_told-in-Lock.ensures, c.enum_told-in-Lock-1.given.1)
+returns-in-Lock c = rw (c.nothing_told-in-Lock.ensures, c.in-Lock.is)
 
 pub returns-in-Unlock : goal.returns-in-Unlock
 unfolding told_by
-returns-in-Unlock c = rw (c.nothing_told-in-Unlock.ensures, c.enum_told-in-Unlock-1.given.1)
+returns-in-Unlock c = rw (c.nothing_told-in-Unlock.ensures, c.in-Unlock.is)
 
 pub returns-in-ReportOn : goal.returns-in-ReportOn
 unfolding told_by
-returns-in-ReportOn c = rw (c.no_cv.ensures, c.report_at.ensures, c.enum_told-in-ReportOn-1.given.1)
+returns-in-ReportOn c = rw (c.no_cv.ensures, c.report_at.ensures, c.in-ReportOn.is)
 
 pub returns-in-WriteCc : goal.returns-in-WriteCc
 unfolding told_by
-returns-in-WriteCc c = rw (c.no_cv-in-WriteCc.ensures, c.cc_octets_at.ensures, c.no_report.ensures, c.enum_told-in-WriteCc-1.given.1)
+returns-in-WriteCc c = rw (c.no_cv-in-WriteCc.ensures, c.cc_octets_at.ensures, c.no_report.ensures, c.in-WriteCc.is)
 
 pub returns-in-WriteCv : goal.returns-in-WriteCv
 unfolding told_by
-returns-in-WriteCv c = rw (c.cv_octets_at.ensures, c.no_report-in-WriteCv.ensures, c.enum_told-in-WriteCv-1.given.1)
+returns-in-WriteCv c = rw (c.cv_octets_at.ensures, c.no_report-in-WriteCv.ensures, c.in-WriteCv.is)

@@ -11,11 +11,11 @@ pub returns-then-place-ge64 : goal.returns-then-place-ge64
 returns-then-place-ge64 c = with-past c.args.occupied c.args.place c.if-place-ge64.true
 
 pub returns-then-is_occupied : goal.returns-then-is_occupied
-returns-then-is_occupied c =    
+returns-then-is_occupied c =
     with-taken c.args.occupied c.args.place c.if-place-ge64.false (sym c.is_occupied.ensures ∙ c.if-is_occupied.true)
 
 pub overflow_add-result : goal.overflow_add-result
-overflow_add-result c =    
+overflow_add-result c =
     let f : occupied_at c.args.occupied c.args.place ≡ false = sym c.is_occupied.ensures ∙ c.if-is_occupied.false in
     omega (
       arith,
@@ -24,6 +24,6 @@ overflow_add-result c =
     )
 
 pub returns : goal.returns
-returns c =    
+returns c =
     ap (λ (p : ℕ). c.args.occupied + p) (shifted_one 64 c.args.place c.if-place-ge64.false)
     ∙ with-free c.args.occupied c.args.place c.if-place-ge64.false (sym c.is_occupied.ensures ∙ c.if-is_occupied.false)

@@ -6,19 +6,19 @@ use Rattle.table.proofs.OccupiedSet.{free-past, occupied-within, shifted_one, wi
 use Rattle.table.proofs.occupied.without_place.Goals as goal
 
 pub returns-then-place-ge64 : goal.returns-then-place-ge64
-returns-then-place-ge64 c =    
+returns-then-place-ge64 c =
     without-free c.args.occupied c.args.place (free-past 64 c.args.occupied c.args.place (omega arith) c.if-place-ge64.true)
 
 pub overflow_sub-result : goal.overflow_sub-result
-overflow_sub-result c =    
+overflow_sub-result c =
     subst (λ (p : ℕ). p ≤ c.args.occupied) (sym (shifted_one 64 c.args.place c.if-place-ge64.false))
     (occupied-within c.args.occupied c.args.place (sym c.is_occupied.ensures ∙ c.if-is_occupied.true))
 
 pub returns-then-is_occupied : goal.returns-then-is_occupied
-returns-then-is_occupied c =    
+returns-then-is_occupied c =
     ap (λ (p : ℕ). c.args.occupied - p) (shifted_one 64 c.args.place c.if-place-ge64.false)
     ∙ without-taken c.args.occupied c.args.place (sym c.is_occupied.ensures ∙ c.if-is_occupied.true)
 
 pub returns : goal.returns
-returns c =    
+returns c =
     without-free c.args.occupied c.args.place (sym c.is_occupied.ensures ∙ c.if-is_occupied.false)

@@ -9,6 +9,7 @@ use borrow.Author.Tests.{not-true, not-false}
 use Rattle.rules.proofs.Bools.{no_way}
 use Rattle.capture.specs.Records.{next_in, is_whole}
 use Rattle.text.proofs.Going.{Invariant, begins, part-within, turn, turn-uses, ends, stopped}
+use Rattle.text.proofs.lines.put_lines.Lts as lts
 use Rattle.text.proofs.lines.put_lines.Given as goal
 
 abbrev pub invariant-loop-c : goal.invariant-loop-c
