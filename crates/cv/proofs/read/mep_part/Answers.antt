@@ -25,14 +25,14 @@ returns-then-refusal-eq0 c =
     let n = c.get_u16-length.result in
     let at : x ≡ mep_at m = c.mep_at-at.ensures in
     let len : n ≡ len_at m = c.get_u16-length.ensures ∙ ap (λ (k : ℕ). number_at 2 m (k + 2)) at in
-    let size : x + 4 + n - x ≡ 4 + n = omega arith in (
-      ap (λ (k : ℕ). take k (drop x m)) size ∙ ap (λ (k : ℕ). take (4 + k) (drop x m)) len ∙ ap (λ (k : ℕ). take (4 + len_at m) (drop k m)) at ∙ sym (part-accepted m e),
-      (refl, ap (λ (k : ℕ). k + start) (at ∙ sym (at-accepted m e))),
-    )
+    let size : x + 4 + n - x ≡ 4 + n = omega arith in record {
+      which = ap (λ (k : ℕ). take k (drop x m)) size ∙ ap (λ (k : ℕ). take (4 + k) (drop x m)) len ∙ ap (λ (k : ℕ). take (4 + len_at m) (drop k m)) at ∙ sym (part-accepted m e);
+      whose = (refl, ap (λ (k : ℕ). k + start) (at ∙ sym (at-accepted m e)));
+    }
 
 pub returns-else-refusal-eq0 : goal.returns-else-refusal-eq0
 returns-else-refusal-eq0 c =
     let m = c.args.m.now in
     let start = c.args.m.ref_ptr.1 in
     let h : cv_refusal m ≡ 0 → ⊥ = λ z. c.if-refusal-eq0.false (c.cv_refusal-refusal.ensures ∙ z) in
-    (sym (part-refused m h), (refl, sym (zero-add start) ∙ ap (λ (k : ℕ). k + start) (sym (at-refused m h))))
+    record { which = sym (part-refused m h); whose = (refl, sym (zero-add start) ∙ ap (λ (k : ℕ). k + start) (sym (at-refused m h))) }

@@ -1,3 +1,4 @@
+use native.Mathlib.Omega.{arith}
 use Rattle.cv.specs.MepId.{front_of}
 use Rattle.cv.proofs.Fronts.{front-none, front-all, past-seven}
 use borrow.Author.Rules.{rules}
@@ -37,4 +38,4 @@ returns-in-7 c = rw c.in-7.is
 
 pub returns-in_default : goal.returns-in_default
 unfolding front_of
-returns-in_default c = let r = c.in-0.rest in front-all _ _ (past-seven _ r.0.0.0.0.0.0.0.1 r.0.0.0.0.0.0.1 r.0.0.0.0.0.1 r.0.0.0.0.1 r.0.0.0.1 r.0.0.1 r.0.1 r.1)
+returns-in_default c = front-all _ _ (past-seven _ (λ e. omega arith) (λ e. omega arith) (λ e. omega arith) (λ e. omega arith) (λ e. omega arith) (λ e. omega arith) (λ e. omega arith) (λ e. omega arith))
