@@ -10,7 +10,7 @@ use Rattle.comparison.proofs.entries.put_marks.Goals as goal
 pub returns : goal.returns
 unfolding marked
 returns c = (
-  put_then (put_as c.args.m.time (sym (add-zero (8 * c.args.n))) c.put-Only.ensures.0)
+  put_then (put_as c.args.m.time (sym (add-zero (8 * c.args.n))) c.put_only-a.ensures.0)
       (put_then c.put_only-b.ensures.0
       (put_then c.put_only-c.ensures.0
       (put_then c.put_only-d.ensures.0

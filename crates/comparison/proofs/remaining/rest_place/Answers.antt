@@ -14,7 +14,7 @@ overflow_add-result c = let a = c.args in
     let q = rest-begins a.first.now a.second.now
     (either-bad a.first.now a.second.now c.bad_capture.ensures c.bad_capture-2.ensures c.either.ensures ∙ c.if-either.false)
     _ _ c.from_place.ensures c.from_place-2.ensures c.agreeing_octets.result c.agreeing_octets.ensures in
-    omega (arith, q.1, c.well-formed.0.0)
+    omega (arith, q.1, c.well_formed.0.0)
 
 pub returns : goal.returns
 returns c = let a = c.args in

@@ -15,7 +15,7 @@ returns-then-not-b c = refused _ _ (λ s. unsound _ _ c.digest_of-b.ensures c.if
 
 pub returns-then-are_alike : goal.returns-then-are_alike
 returns-then-are_alike c =
-    let held = keys-held _ _ c.well-formed.0 in
+    let held = keys-held _ _ c.well_formed.0 in
     refused _ _ (λ s. clashing _ _ _ held.first held.second c.digest_of-a.ensures c.digest_of-b.ensures (sym c.are_alike.ensures ∙ c.if-are_alike.true) s.first s.second s.apart12)
 
 pub returns-then-not-c : goal.returns-then-not-c
@@ -23,7 +23,7 @@ returns-then-not-c c = refused _ _ (λ s. unsound _ _ c.digest_of-c.ensures c.if
 
 pub returns-then-is_alike_to : goal.returns-then-is_alike_to
 returns-then-is_alike_to c =
-    let held = keys-held _ _ c.well-formed.0 in
+    let held = keys-held _ _ c.well_formed.0 in
     refused _ _
     (λ s. ⊎_elim (λ z. clashing _ _ _ held.first held.third c.digest_of-a.ensures c.digest_of-c.ensures z s.first s.third s.apart13)
     (λ z. clashing _ _ _ held.second held.third c.digest_of-b.ensures c.digest_of-c.ensures z s.second s.third s.apart23)
@@ -35,7 +35,7 @@ returns-then-not-d c = refused _ _ (λ s. unsound _ _ c.digest_of-d.ensures c.if
 pub returns-then-is_alike_to-2 : goal.returns-then-is_alike_to-2
 returns-then-is_alike_to-2 c =
     let one = c in
-    let held = keys-held _ _ one.well-formed.0 in
+    let held = keys-held _ _ one.well_formed.0 in
     refused _ _
     (λ s. ⊎_elim (λ z. clashing _ _ _ held.first held.fourth one.digest-of.ensures c.digest_of-d.ensures z s.first s.fourth s.apart14)
     (λ z. clashing _ _ _ held.second held.fourth c.digest_of-b.ensures c.digest_of-d.ensures z s.second s.fourth s.apart24)
@@ -44,13 +44,13 @@ returns-then-is_alike_to-2 c =
 pub returns-then-are_alike-2 : goal.returns-then-are_alike-2
 returns-then-are_alike-2 c =
     let one = c in
-    let held = keys-held _ _ one.well-formed.0 in
+    let held = keys-held _ _ one.well_formed.0 in
     refused _ _ (λ s. clashing _ _ _ held.third held.fourth c.digest_of-c.ensures c.digest_of-d.ensures (sym c.are_alike-2.ensures ∙ c.if-are_alike-2.true) s.third s.fourth s.apart34)
 
 pub returns : goal.returns
 returns c =
     let one = c in
-    let held = keys-held _ _ one.well-formed.0 in
+    let held = keys-held _ _ one.well_formed.0 in
     let p1 = sound _ _ one.digest-of.ensures c.if-not-a.false in
     let p2 = sound _ _ c.digest_of-b.ensures c.if-not-b.false in
     let p3 = sound _ _ c.digest_of-c.ensures c.if-not-c.false in

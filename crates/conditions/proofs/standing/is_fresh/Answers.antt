@@ -4,4 +4,4 @@ use Rattle.conditions.proofs.standing.is_fresh.Goals as goal
 
 pub returns : goal.returns
 unfolding fresh
-returns c = rw (c.is_Within.ensures, c.lifetime_of.ensures)
+returns c = rw (c.is_within.ensures, c.lifetime_of.ensures)

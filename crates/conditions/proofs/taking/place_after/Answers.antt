@@ -5,7 +5,7 @@ pub returns-then-here : goal.returns-then-here
 returns-then-here c = rw c.if-here.true
 
 pub returns-then-has_key : goal.returns-then-has_key
-returns-then-has_key c = rw (c.if-here.false, ← c.has_key_lem.ensures, c.if-has_key.true, c.empty_place.ensures)
+returns-then-has_key c = rw (c.if-here.false, ← c.has_key.ensures, c.if-has_key.true, c.empty_place.ensures)
 
 pub returns : goal.returns
-returns c = rw (c.if-here.false, ← c.has_key_lem.ensures, c.if-has_key.false)
+returns c = rw (c.if-here.false, ← c.has_key.ensures, c.if-has_key.false)

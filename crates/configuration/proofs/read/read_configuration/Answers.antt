@@ -7,4 +7,4 @@ pub returns : goal.returns
 returns c = let a = c.args in
     rw (c.configuration_answer.ensures, c.seen_refusal.ensures)
     (answer-is a.authentication a.octets.now c.read_list-s.result
-    (rw c.nothing_Seen.ensures at c.read_list-s.ensures))
+    (rw c.nothing_seen.ensures at c.read_list-s.ensures))

@@ -5,7 +5,7 @@ use Rattle.feed.proofs.records.put_by.Goals as goal
 
 pub returns-then-o-ne0 : goal.returns-then-o-ne0
 unfolding line_by
-returns-then-o-ne0 c = rw (ne_eqb c.args.o.answer 0 c.if-o-ne0.true) c.Put-refused.ensures
+returns-then-o-ne0 c = rw (ne_eqb c.args.o.answer 0 c.if-o-ne0.true) c.put_refused.ensures
 
 pub returns-then-r-lt6 : goal.returns-then-r-lt6
 unfolding line_by

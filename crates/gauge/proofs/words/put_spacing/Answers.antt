@@ -11,4 +11,4 @@ returns-then-s-eq0 c =
 pub returns : goal.returns
 unfolding spacing_line
 returns c =
-    rw (ne_eqb _ _ c.if-s-eq0.false) c.Put-refused.ensures
+    rw (ne_eqb _ _ c.if-s-eq0.false) c.put_refused.ensures

@@ -2,7 +2,7 @@ use borrow.Author.Rules.{rules}
 use Rattle.group_step.proofs.asked.group_target.Goals as goal
 
 pub returns-in-Set : goal.returns-in-Set
-returns-in-Set c = rw (c.Named-by.ensures, c.in-Set.is)
+returns-in-Set c = rw (c.named_by.ensures, c.in-Set.is)
 
 pub returns-in-Ac : goal.returns-in-Ac
 returns-in-Ac c = rw (c.held_by.ensures, c.in-Ac.is)

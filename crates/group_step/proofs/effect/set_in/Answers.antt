@@ -4,4 +4,4 @@ use Rattle.group_step.proofs.effect.set_in.Goals as goal
 
 pub returns : goal.returns
 unfolding set_in
-returns c = rw (c.with_group.ensures, c.Group-of.ensures, c.crossing_at-crossing.ensures, c.loss_at-loss.ensures)
+returns c = rw (c.with_group.ensures, c.group_of.ensures, c.crossing_at-crossing.ensures, c.loss_at-loss.ensures)

@@ -9,4 +9,4 @@ returns-then-a-eq0 c = let a = c.args.a in rw (eq-eqb a.answer 0 c.if-a-eq0.true
 
 pub returns : goal.returns
 unfolding answer_line
-returns c = let a = c.args.a in rw (ne_eqb a.answer 0 c.if-a-eq0.false) c.Put-refused.ensures
+returns c = let a = c.args.a in rw (ne_eqb a.answer 0 c.if-a-eq0.false) c.put_refused.ensures

@@ -24,4 +24,4 @@ returns-in-Refused c =
     let s = w.args in
     let p : Put = record { buffer = s.out.now; at = s.at } in
     let answer : refused _ ≡ cause_from s.m s.r s.clock s.thing = ap said (sym c.in-Refused.is) ∙ c.cause_from-a.ensures in
-    c.Put-refused.ensures ∙ ap (λ (o : Answer Cause). typed p (telling o (words_from s.m s.r s.clock s.kept.now s.thing) s.label s.thing)) answer
+    c.put_refused.ensures ∙ ap (λ (o : Answer Cause). typed p (telling o (words_from s.m s.r s.clock s.kept.now s.thing) s.label s.thing)) answer

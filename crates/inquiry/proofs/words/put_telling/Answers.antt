@@ -11,4 +11,4 @@ returns-then-f c =
 pub returns : goal.returns
 unfolding telling_from telling
 returns c =
-    rw c.if-f.false c.Put-refused.ensures
+    rw c.if-f.false c.put_refused.ensures

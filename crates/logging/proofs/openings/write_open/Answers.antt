@@ -13,4 +13,4 @@ use Rattle.logging.proofs.openings.write_open.Goals as goal
 -- src/openings.rt:67:1
 pub returns : goal.returns
 unfolding open_refusal open_octets
-returns c = rw (c.write_both.ensures, c.need.ensures, c.settings_held.ensures, c.body_octets-body.ensures, c.head_octets-head.ensures, c.Opening-of.ensures)
+returns c = rw (c.write_both.ensures, c.need.ensures, c.settings_held.ensures, c.body_octets-body.ensures, c.head_octets-head.ensures, c.opening_of.ensures)

@@ -4,7 +4,7 @@ use Rattle.scan.proofs.KeyMarks.{none_within}
 use Rattle.scan.proofs.keys.has_own.Goals as goal
 
 pub returns-then-has_discriminator : goal.returns-then-has_discriminator
-returns-then-has_discriminator c = rw (c.has_key_lem.ensures, c.own_key.ensures)
+returns-then-has_discriminator c = rw (c.has_key.ensures, c.own_key.ensures)
 
 pub returns : goal.returns
 returns c =

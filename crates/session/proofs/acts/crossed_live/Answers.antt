@@ -5,4 +5,4 @@ use Rattle.session.proofs.acts.crossed_live.Goals as goal
 
 pub returns : goal.returns
 unfolding crossed_at group_at
-returns c = rw (c.lowered_pw.ensures, c.pw_at.ensures, c.live_of_lem.ensures, c.stored_number-number.ensures, c.move_by-to.ensures, c.state_at.ensures, c.Mode-of.ensures)
+returns c = rw (c.lowered_pw.ensures, c.pw_at.ensures, c.live_of-live.ensures, c.stored_number-number.ensures, c.move_by-to.ensures, c.state_at.ensures, c.mode_of.ensures)

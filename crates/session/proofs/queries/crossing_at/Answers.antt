@@ -4,4 +4,4 @@ use Rattle.session.proofs.queries.crossing_at.Goals as goal
 
 pub returns : goal.returns
 unfolding crossing_at
-returns c = rw (c.both.ensures, c.is_Within.ensures)
+returns c = rw (c.both.ensures, c.is_within.ensures)
