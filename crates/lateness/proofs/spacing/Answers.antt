@@ -14,8 +14,7 @@ returns-then-not-header_fits c =
 
 pub returns : goal.returns
 returns c =
-    let h = c in
-    let s = h.args in
-    spaces s.capture.now s.label (sym h.header-fits.ensures ∙ not-false h.header-fits.result c.if-not-header_fits.false)
+    let s = c.args in
+    spaces s.capture.now s.label (sym c.header_fits.ensures ∙ not-false c.header_fits.result c.if-not-header_fits.false)
     c.begin.result c.begin.ensures c.pace-t.result c.pace-t.ensures
     c.finish-2.result c.finish-2.ensures

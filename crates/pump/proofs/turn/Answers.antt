@@ -19,7 +19,6 @@ returns-then-not-is_ready c =
 
 pub returns : goal.returns
 returns c =
-    let b = c in
     let o = b in
     let s = o.args in
-    turn-feeds s.p s.buf.now s.out.now o.if1.false o.if2.false _ b.begin.ensures (sym c.is_ready.ensures ∙ not-false c.is_ready.result c.if-not-is_ready.false) _ c.feed_on.ensures
+    turn-feeds s.p s.buf.now s.out.now o.if1.false o.if2.false _ c.begin-q.ensures (sym c.is_ready.ensures ∙ not-false c.is_ready.result c.if-not-is_ready.false) _ c.feed_on.ensures

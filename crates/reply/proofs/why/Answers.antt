@@ -11,10 +11,9 @@ returns-then-not-header_fits c =
 
 pub returns : goal.returns
 returns c =
-    let m = c in
     let e = m in
     let h = e in
     let s = h.args in
     answers s.capture.now _ _ s.label s.thing (sym h.header-fits.ensures ∙ not-false h.header-fits.result e.if1.false)
-    m.most-records.result m.most-records.ensures c.begin.result c.begin.ensures c.trace-t.result c.trace-t.ensures
+    c.most_records-upto.result c.most_records-upto.ensures c.begin.result c.begin.ensures c.trace-t.result c.trace-t.ensures
     c.record_asked.result c.record_asked.ensures c.answer_from.result c.answer_from.ensures

@@ -15,20 +15,18 @@ returns-then-got-lt0 c =
 
 pub returns-then-n-eq0 : goal.returns-then-n-eq0
 returns-then-n-eq0 c =
-    let s = c in
-    let a = s.args in
+    let a = c.args in
     let x : Gauged = record { gauge = a.g; buf = a.buf.now } in
-    after_none x c.looks-then-n-eq0.result _ a.got s.ranges.got c.if-got-lt0.false _ c.count-n.result s.requires c.count-n.ensures.value c.if-n-eq0.true
+    after_none x c.looks-then-n-eq0.result _ a.got c.ranges.got c.if-got-lt0.false _ c.count-n.result c.requires c.count-n.ensures.value c.if-n-eq0.true
     (ap (λ (r : Looked). r.go) c.looks-then-n-eq0.ensures)
     (record { same-gauge = ap (λ (r : Looked). r.gauge) c.looks-then-n-eq0.ensures; same-buf = refl })
 
 pub returns : goal.returns
 returns c =
-    let e = c in
     let s = e in
     let a = s.args in
     let x : Gauged = record { gauge = a.g; buf = a.buf.now } in
     let is = c.looks-2.ensures in
-    after-moved x c.looks-2.result _ a.got s.ranges.got e.if1.false _ c.count-n.result s.requires c.count-n.ensures.value c.if-n-eq0.false
+    after-moved x c.looks-2.result _ a.got s.ranges.got c.if-got-lt0.false _ c.count-n.result s.requires c.count-n.ensures.value c.if-n-eq0.false
     (ap (λ (r : Looked). r.go) is ∙ sym (ap (λ (r : Looked). not r.gauge.over) is))
     (rw is c.got-next.ensures)

@@ -12,8 +12,7 @@ after_read-requires c =
 
 pub returns : goal.returns
 returns c =
-    let s = c in
-    let a = s.args in
+    let a = c.args in
     let x : Gauged = record { gauge = a.g; buf = a.buf.now } in
-    read_made x c.read-got.new.1.0 c.within-at.result c.within-at.ensures c.read-got.auto.1.0 s.requires c.after_read.result _ c.read-got.result c.read-got.ensures
+    read_made x c.read-got.new.1.0 c.within-at.result c.within-at.ensures c.read-got.auto.1.0 c.requires c.after_read.result _ c.read-got.result c.read-got.ensures
     (after-held _ c.after_read.result _ c.read-got.result (record { sfits = c.read-got.type_inv }) c.after_read.ensures)

@@ -22,8 +22,7 @@ read_on-x-requires c = c.loop-turns.invariant.1 c.if-go.true
 
 pub loop-turns-preserved : goal.loop-turns-preserved
 loop-turns-preserved c =
-    let s = c in
-    let a = s.args in
+    let a = c.args in
     let i = c.loop-turns.invariant in
     let x : Gauged = record { gauge = c.loop-turns.g; buf = c.loop-turns.buf } in (
       c.read_on-x.auto.1.0 ∙ i.0,

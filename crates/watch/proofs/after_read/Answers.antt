@@ -8,5 +8,4 @@ returns-then-got-lt0 c =
 
 pub returns : goal.returns
 returns c =
-    let s = c in
-    after-moved-read s.args.got s.ranges.got s.args.core c.moved.result c.if-got-lt0.false _ c.count-n.result s.requires c.count-n.ensures.value c.got.result c.moved.ensures _ c.got.ensures
+    after-moved-read c.args.got c.ranges.got c.args.core c.moved.result c.if-got-lt0.false _ c.count-n.result c.requires c.count-n.ensures.value c.got.result c.moved.ensures _ c.got.ensures

@@ -12,6 +12,5 @@ returns-then-took-eq0 c =
 
 pub returns : goal.returns
 returns c =
-    let e = c in
     let s = e in
-    after-moved-write s.args.took s.ranges.took s.args.core c.moved.result e.if1.false _ c.count-n.result s.requires c.count-n.ensures.value c.took.result c.moved.ensures c.if-took-eq0.false c.took.ensures
+    after-moved-write s.args.took s.ranges.took s.args.core c.moved.result c.if-took-lt0.false _ c.count-n.result s.requires c.count-n.ensures.value c.took.result c.moved.ensures c.if-took-eq0.false c.took.ensures

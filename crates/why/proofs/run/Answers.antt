@@ -23,14 +23,13 @@ read_on-x-requires c = c.loop-turns.invariant.2 c.if-go.true
 
 pub loop-turns-preserved : goal.loop-turns-preserved
 loop-turns-preserved c =
-    let s = c in
-    let a = s.args in
+    let a = c.args in
     let i = c.loop-turns.invariant in
     let x : Searched = record { search = c.loop-turns.s; buf = c.loop-turns.buf; kept = c.loop-turns.auto } in (
       c.read_on-x.auto.1.0 ∙ i.0,
       c.read_on-x.auto.1.1.0 ∙ i.1,
       c.read_on-x.ensures.goes (i.2 c.if-go.true),
-      reached-next a.label a.upto s.ranges.upto.fits a.kept.now x i.3 c.read_on-x.result _ _ c.read_on-x.ensures,
+      reached-next a.label a.upto c.ranges.upto.fits a.kept.now x i.3 c.read_on-x.result _ _ c.read_on-x.ensures,
     )
 
 pub shape_of-buf : goal.shape_of-buf

@@ -9,12 +9,11 @@ returns-then-g c = let s = c.args in no_more s.g s.n s.buf.now c.if-g.true
 
 pub returns-then-begun : goal.returns-then-begun
 returns-then-begun c =
-    let h = c in
     let f = h in
     let s = f.args in
     let began : Gauged = record { gauge = c.begin-begun.result; buf = c.begin-begun.new.1.0 } in
     c.pace_on.ensures ∙ paces began c.if-begun.true
-    ∙ goes_on_lem s.g s.n s.buf.now f.if1.false h.advance.result h.advance.ensures h.hold.result h.hold.ensures began c.begin-begun.ensures
+    ∙ goes_on_lem s.g s.n s.buf.now f.if1.false c.advance.result c.advance.ensures c.hold-held.result c.hold-held.ensures began c.begin-begun.ensures
 
 pub returns : goal.returns
 returns c =

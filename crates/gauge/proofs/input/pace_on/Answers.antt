@@ -15,8 +15,7 @@ slice_bounds-next_record-end-2 c =
 
 pub returns : goal.returns
 returns c =
-    let a = c in
     let w = a in
     let s = w.args in
-    paced s.g s.buf.now w.within.result w.within.ensures a.rewind.result c.pace-asked.result a.rewind.ensures c.pace-asked.ensures
+    paced s.g s.buf.now w.within.result w.within.ensures c.rewind.result c.pace-asked.result c.rewind.ensures c.pace-asked.ensures
     c.shift-have.result c.shift-have.new.0 c.shift-have.ensures c.next_record.result c.next_record.ensures c.cannot_mend-over.result c.cannot_mend-over.ensures

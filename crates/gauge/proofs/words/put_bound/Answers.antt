@@ -8,10 +8,9 @@ use Rattle.gauge.proofs.words.put_bound.Goals as goal
 pub returns-then-there : goal.returns-then-there
 unfolding bound_words
 returns-then-there c =
-    let a = c in
-    let s = a.args in
+    let s = c.args in
     let p : Put = record { buffer = s.out.now; at = s.at } in
-    rw c.if-there.true (then p _ _ c.put_words-a.ensures (as-signed s.z a.ranges.z _ _ c.put_signed.ensures))
+    rw c.if-there.true (then p _ _ c.put_words-a.ensures (as-signed s.z c.ranges.z _ _ c.put_signed.ensures))
 
 pub returns : goal.returns
 unfolding bound_words

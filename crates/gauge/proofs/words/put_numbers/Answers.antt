@@ -20,7 +20,6 @@ sum_fits c = search rules
 pub returns : goal.returns
 unfolding numbers_line
 returns c =
-    let w = c in
-    let s = w.args in
+    let s = c.args in
     let p : Put = record { buffer = s.out.now; at = s.at } in
-    then p _ _ (then p _ _ (then p _ _ w.put-decimal.ensures (as-bound s.s.least (least_fits c) _ _ s.s.paired c.put_bound-b.ensures)) (as-bound s.s.greatest (greatest-fits c) _ _ s.s.paired c.put_bound-c.ensures)) (as_sums s.s.sum (sum_fits c) _ _ s.s.sizes c.put_sums.ensures)
+    then p _ _ (then p _ _ (then p _ _ c.put_decimal-a.ensures (as-bound s.s.least (least_fits c) _ _ s.s.paired c.put_bound-b.ensures)) (as-bound s.s.greatest (greatest-fits c) _ _ s.s.paired c.put_bound-c.ensures)) (as_sums s.s.sum (sum_fits c) _ _ s.s.sizes c.put_sums.ensures)

@@ -5,7 +5,6 @@ use Rattle.gauge.proofs.words.put_refused.Goals as goal
 
 pub returns : goal.returns
 returns c =
-    let w = c in
-    let s = w.args in
+    let s = c.args in
     let p : Put = record { buffer = s.out.now; at = s.at } in
     then p _ _ (then p _ _ c.put_words-a.ensures c.put_decimal-b.ensures) c.put_words.ensures

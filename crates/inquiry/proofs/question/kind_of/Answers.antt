@@ -21,19 +21,16 @@ returns-then-is_word-3 c =
 pub returns-then-is_word-4 : goal.returns-then-is_word-4
 unfolding kind_of
 returns-then-is_word-4 c =
-    let e1 = c in
-    rw (sym e1.is_Is_word.ensures ∙ e1.if1.false, sym c.is_word-2.ensures ∙ c.if-is_word-2.false, sym c.is_word-3.ensures ∙ c.if-is_word-3.false, sym c.is_word-4.ensures ∙ c.if-is_word-4.true)
+    rw (sym c.is_Is_word.ensures ∙ c.if-is_word.false, sym c.is_word-2.ensures ∙ c.if-is_word-2.false, sym c.is_word-3.ensures ∙ c.if-is_word-3.false, sym c.is_word-4.ensures ∙ c.if-is_word-4.true)
 
 pub returns-then-is_word-5 : goal.returns-then-is_word-5
 unfolding kind_of
 returns-then-is_word-5 c =
-    let e2 = c in
     let e1 = e2 in
-    rw (sym e1.is_Is_word.ensures ∙ e1.if1.false, sym e2.is-word2.ensures ∙ e2.if2.false, sym c.is_word-3.ensures ∙ c.if-is_word-3.false, sym c.is_word-4.ensures ∙ c.if-is_word-4.false, sym c.is_word-5.ensures ∙ c.if-is_word-5.true)
+    rw (sym e1.is_Is_word.ensures ∙ e1.if1.false, sym c.is_word-2.ensures ∙ c.if-is_word-2.false, sym c.is_word-3.ensures ∙ c.if-is_word-3.false, sym c.is_word-4.ensures ∙ c.if-is_word-4.false, sym c.is_word-5.ensures ∙ c.if-is_word-5.true)
 
 pub returns : goal.returns
 unfolding kind_of
 returns c =
-    let e2 = c in
     let e1 = e2 in
-    rw (sym e1.is_Is_word.ensures ∙ e1.if1.false, sym e2.is-word2.ensures ∙ e2.if2.false, sym c.is_word-3.ensures ∙ c.if-is_word-3.false, sym c.is_word-4.ensures ∙ c.if-is_word-4.false, sym c.is_word-5.ensures ∙ c.if-is_word-5.false)
+    rw (sym e1.is_Is_word.ensures ∙ e1.if1.false, sym c.is_word-2.ensures ∙ c.if-is_word-2.false, sym c.is_word-3.ensures ∙ c.if-is_word-3.false, sym c.is_word-4.ensures ∙ c.if-is_word-4.false, sym c.is_word-5.ensures ∙ c.if-is_word-5.false)

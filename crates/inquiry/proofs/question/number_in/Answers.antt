@@ -35,9 +35,8 @@ overflow_cast-d c =
 
 pub returns-then-not-next : goal.returns-then-not-next
 returns-then-not-next c =
-    let l = c in
-    let a = l.args in
-    let x = l.loop in
+    let a = c.args in
+    let x = c.loop-i in
     let digit = digit-read x.n x.i a.s.now (omega arith) (sym c.is_digit.ensures ∙ not-false c.is_digit.result c.if-not-is_digit.false) in
     let over = within-bad a.most _ (sym (ap (λ (n : Number). n.good) c.one_more-next.ensures) ∙ not-true c.one_more-next.result.good c.if-not-next.true) in
     c.no_number-then-not-next.ensures ∙ sym (x.invariant.2 ∙ ap (up_to a.most) digit ∙ too_large a.most _ _ over)

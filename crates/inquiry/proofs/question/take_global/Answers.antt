@@ -6,6 +6,5 @@ use Rattle.inquiry.proofs.question.take_global.Goals as goal
 pub returns : goal.returns
 unfolding global_taken
 returns c =
-    let f = c in
     let n = f in
-    c.only_if.ensures ∙ rw (c.with_thing.ensures, c.with_global.ensures, c.both-test.ensures, f.is_free.ensures, ← n.small-in.ensures)
+    c.only_if.ensures ∙ rw (c.with_thing.ensures, c.with_global.ensures, c.both-test.ensures, c.is_free.ensures, ← n.small-in.ensures)

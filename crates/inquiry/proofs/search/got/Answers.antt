@@ -9,12 +9,11 @@ returns-then-s c = let s = c.args in no_more s.s s.n s.buf.now s.kept.now c.if-s
 
 pub returns-then-begun : goal.returns-then-begun
 returns-then-begun c =
-    let h = c in
     let f = h in
     let s = f.args in
     let began : Begun = record { search = c.begin-begun.result; buf = c.begin-begun.new.1.0 } in
     c.trace_on.ensures ∙ traces began s.kept.now c.if-begun.true
-    ∙ goes_on_lem s.s s.n s.buf.now s.kept.now f.if1.false h.advance.result h.advance.ensures h.hold.result h.hold.ensures began c.begin-begun.ensures
+    ∙ goes_on_lem s.s s.n s.buf.now s.kept.now f.if1.false c.advance.result c.advance.ensures c.hold-held.result c.hold-held.ensures began c.begin-begun.ensures
 
 pub returns : goal.returns
 returns c =

@@ -5,17 +5,15 @@ use Rattle.inquiry.proofs.search.put_text.Goals as goal
 
 pub returns-then-s : goal.returns-then-s
 returns-then-s c =
-    let a = c in
-    let s = a.args in
+    let s = c.args in
     let p : Put = record { buffer = s.out.now; at = 0 } in
-    bad-text s.s s.buf.now s.kept.now s.thing p _ _ a.record-asked.result a.record-asked.ensures c.put_telling-at.ensures c.if-s.true c.put_bad_header.ensures
+    bad-text s.s s.buf.now s.kept.now s.thing p _ _ c.record_asked-f.result c.record_asked-f.ensures c.put_telling-at.ensures c.if-s.true c.put_bad_header.ensures
 
 pub returns : goal.returns
 returns c =
-    let d = c in
     let t = d in
     let a = t in
     let s = a.args in
     let p : Put = record { buffer = s.out.now; at = 0 } in
-    good-text s.s s.buf.now s.kept.now s.thing p _ _ a.record-asked.result a.record-asked.ensures t.put-telling.ensures d.if1.false
+    good-text s.s s.buf.now s.kept.now s.thing p _ _ a.record-asked.result a.record-asked.ensures t.put-telling.ensures c.if-s.false
     c.within-n.result c.within-n.ensures c.next_record.result c.next_record.ensures c.put_note.ensures

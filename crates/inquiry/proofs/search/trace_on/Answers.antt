@@ -15,8 +15,7 @@ slice_bounds-next_record-end-2 c =
 
 pub returns : goal.returns
 returns c =
-    let a = c in
     let w = a in
     let s = w.args in
-    traced s.s s.buf.now w.within.result w.within.ensures s.kept.now a.rewind.result c.trace-asked.result c.trace-asked.new.1.1.0 a.rewind.ensures c.trace-asked.ensures
+    traced s.s s.buf.now w.within.result w.within.ensures s.kept.now c.rewind.result c.trace-asked.result c.trace-asked.new.1.1.0 c.rewind.ensures c.trace-asked.ensures
     c.shift-have.result c.shift-have.new.0 c.shift-have.ensures c.next_record.result c.next_record.ensures c.is_settled-over.result c.is_settled-over.ensures

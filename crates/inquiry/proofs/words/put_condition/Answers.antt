@@ -7,11 +7,10 @@ use Rattle.inquiry.proofs.words.put_condition.Goals as goal
 pub returns : goal.returns
 unfolding condition_words
 returns c =
-    let w = c in
     let v = w in
     let u = v in
     let t = u in
     let q = t in
     let s = q.args in
     let p : Put = record { buffer = s.out.now; at = s.at } in
-    then p _ _ (then p _ _ (then p _ _ (then p _ _ (then p _ _ (then p _ _ t.put-fault-kind.ensures u.put-words.ensures) v.put-decimal.ensures) w.put-words2.ensures) c.put_link_down-f.ensures) c.put_interface-g.ensures) c.put_global.ensures
+    then p _ _ (then p _ _ (then p _ _ (then p _ _ (then p _ _ (then p _ _ t.put-fault-kind.ensures u.put-words.ensures) v.put-decimal.ensures) c.put_words-e.ensures) c.put_link_down-f.ensures) c.put_interface-g.ensures) c.put_global.ensures

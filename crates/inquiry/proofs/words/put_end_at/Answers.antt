@@ -5,8 +5,7 @@ use Rattle.inquiry.proofs.words.put_end_at.Goals as goal
 
 pub returns : goal.returns
 returns c =
-    let w = c in
     let v = w in
     let s = v.args in
     let p : Put = record { buffer = s.out.now; at = s.at } in
-    then p _ _ (then p _ _ (then p _ _ w.put-words.ensures c.put_decimal-b.ensures) c.put_words-c.ensures) c.put_words.ensures
+    then p _ _ (then p _ _ (then p _ _ c.put_words-a.ensures c.put_decimal-b.ensures) c.put_words-c.ensures) c.put_words.ensures

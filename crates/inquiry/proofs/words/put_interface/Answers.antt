@@ -6,8 +6,7 @@ use Rattle.inquiry.proofs.words.put_interface.Goals as goal
 
 pub returns-then-key-eq1 : goal.returns-then-key-eq1
 returns-then-key-eq1 c =
-    let w = c in
-    let s = w.args in
+    let s = c.args in
     let p : Put = record { buffer = s.out.now; at = s.at } in
     rw (eq-eqb _ _ c.if-key-eq1.true) (then p _ _ c.put_words-a.ensures c.put_pair.ensures)
 

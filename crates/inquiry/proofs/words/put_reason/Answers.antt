@@ -12,8 +12,7 @@ use Rattle.inquiry.proofs.words.put_reason.Goals as goal
 pub returns-in-Crossing : goal.returns-in-Crossing
 unfolding words_from
 returns-in-Crossing c =
-    let w = c in
-    let s = w.args in
+    let s = c.args in
     let p : Put = record { buffer = s.out.now; at = s.at } in
     rw c.in-Crossing.is (c.put_message.ensures ∙ ap (λ (o : List ℕ). typed p (message_words (message_of o))) c.part.ensures)
 
@@ -25,15 +24,13 @@ returns-in-Loss c =
 pub returns-in-Condition : goal.returns-in-Condition
 unfolding words_from
 returns-in-Condition c =
-    let w = c in
-    let s = w.args in
+    let s = c.args in
     let p : Put = record { buffer = s.out.now; at = s.at } in
     rw c.in-Condition.is (c.put_condition.ensures ∙ ap (λ (k : Candidate). typed p (place_words k.place)) c.best_of_key-named.ensures)
 
 pub returns-in-HeldBack : goal.returns-in-HeldBack
 unfolding words_from
 returns-in-HeldBack c =
-    let w = c in
-    let s = w.args in
+    let s = c.args in
     let p : Put = record { buffer = s.out.now; at = s.at } in
     rw c.in-HeldBack.is (c.put_condition-in-HeldBack.ensures ∙ ap (λ (k : Candidate). typed p (place_words k.place)) c.best_standing-held.ensures)

@@ -5,8 +5,7 @@ use Rattle.inquiry.proofs.words.put_seconds.Goals as goal
 
 pub returns : goal.returns
 returns c =
-    let w = c in
     let v = w in
     let s = v.args in
     let p : Put = record { buffer = s.out.now; at = s.at } in
-    then p _ _ (then p _ _ (then p _ _ w.put-decimal.ensures c.put_words-b.ensures) c.put_six-c.ensures) c.put_words.ensures
+    then p _ _ (then p _ _ (then p _ _ c.put_decimal-a.ensures c.put_words-b.ensures) c.put_six-c.ensures) c.put_words.ensures

@@ -12,10 +12,8 @@ returns-then-by-eq1 c =
 
 pub returns-then-by-eq2 : goal.returns-then-by-eq2
 returns-then-by-eq2 c =
-    let w = c in
-    rw (ne_eqb _ _ w.if1.false, ne_eqb _ _ c.if-by-eq1.false, eq-eqb _ _ c.if-by-eq2.true) c.put_words-then-by-eq2.ensures
+    rw (ne_eqb _ _ c.if-by-eq0.false, ne_eqb _ _ c.if-by-eq1.false, eq-eqb _ _ c.if-by-eq2.true) c.put_words-then-by-eq2.ensures
 
 pub returns : goal.returns
 returns c =
-    let w = c in
-    rw (ne_eqb _ _ w.if1.false, ne_eqb _ _ c.if-by-eq1.false, ne_eqb _ _ c.if-by-eq2.false) c.put_words-2.ensures
+    rw (ne_eqb _ _ c.if-by-eq0.false, ne_eqb _ _ c.if-by-eq1.false, ne_eqb _ _ c.if-by-eq2.false) c.put_words-2.ensures

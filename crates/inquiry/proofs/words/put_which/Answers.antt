@@ -5,9 +5,8 @@ use Rattle.inquiry.proofs.words.put_which.Goals as goal
 
 pub returns : goal.returns
 returns c =
-    let w = c in
     let v = w in
     let u = v in
     let s = u.args in
     let p : Put = record { buffer = s.out.now; at = s.at } in
-    then p _ _ (then p _ _ (then p _ _ (then p _ _ v.put-words.ensures w.put-decimal.ensures) c.put_words-c.ensures) c.put_decimal-d.ensures) c.put_words.ensures
+    then p _ _ (then p _ _ (then p _ _ (then p _ _ v.put-words.ensures c.put_decimal-b.ensures) c.put_words-c.ensures) c.put_decimal-d.ensures) c.put_words.ensures

@@ -15,19 +15,17 @@ returns-then-is_waiting c =
 
 pub returns-then-not-header_fits : goal.returns-then-not-header_fits
 returns-then-not-header_fits c =
-    let w = c in
     let b = w in
     let s = b.args in
-    wrong s.p s.buf.now s.out.now w.within.result w.within.ensures (sym c.is_waiting.ensures ∙ c.if-is_waiting.false)
+    wrong s.p s.buf.now s.out.now c.within-n.result c.within-n.ensures (sym c.is_waiting.ensures ∙ c.if-is_waiting.false)
     (sym c.header_fits.ensures ∙ not-true c.header_fits.result c.if-not-header_fits.true) c.finish.result c.finish.new.1.0 c.finish.ensures
     ∙ not-begun s.p s.buf.now s.out.now b.if1.false
 
 pub returns : goal.returns
 returns c =
-    let w = c in
     let b = w in
     let s = b.args in
-    right s.p s.buf.now s.out.now w.within.result w.within.ensures (sym c.is_waiting.ensures ∙ c.if-is_waiting.false)
+    right s.p s.buf.now s.out.now c.within-n.result c.within-n.ensures (sym c.is_waiting.ensures ∙ c.if-is_waiting.false)
     (sym c.header_fits.ensures ∙ not-false c.header_fits.result c.if-not-header_fits.false) c.shift-have.result c.shift-have.new.0 c.shift-have.ensures
     c.behind_header.result c.behind_header.ensures
     ∙ not-begun s.p s.buf.now s.out.now b.if1.false

@@ -6,8 +6,7 @@ use Rattle.pump.proofs.turns.feed_on.Goals as goal
 
 pub returns : goal.returns
 returns c =
-    let w = c in
-    let s = w.args in
+    let s = c.args in
     c.unfed.ensures
-    ∙ none-fed s.p s.buf.now s.out.now w.within.result w.within.ensures
+    ∙ none-fed s.p s.buf.now s.out.now c.within-n.result c.within-n.ensures
     (sym (c.is_whole.ensures ∙ ap is_whole c.next_record.ensures) ∙ c.if-is_whole.false)

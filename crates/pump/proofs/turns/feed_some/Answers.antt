@@ -5,16 +5,14 @@ use Rattle.pump.proofs.turns.feed_some.Goals as goal
 
 pub returns-then-used-gt0 : goal.returns-then-used-gt0
 returns-then-used-gt0 c =
-    let w = c in
-    let s = w.args in
-    lines s.p s.buf.now s.out.now w.within.result w.within.ensures c.at_front.result c.feed-table.result c.feed-table.new.1.1.0 c.at_front.ensures c.feed-table.ensures
+    let s = c.args in
+    lines s.p s.buf.now s.out.now c.within-n.result c.within-n.ensures c.at_front.result c.feed-table.result c.feed-table.new.1.1.0 c.at_front.ensures c.feed-table.ensures
     c.if-used-gt0.true c.shift-have.result c.shift-have.new.0 c.shift-have.ensures
 
 pub returns : goal.returns
 returns c =
-    let a = c in
     let w = a in
     let s = w.args in
     c.unfed.ensures
-    ∙ took-none s.p s.buf.now s.out.now w.within.result w.within.ensures a.at_front.result c.feed-table.result c.feed-table.new.1.1.0 a.at_front.ensures c.feed-table.ensures
+    ∙ took-none s.p s.buf.now s.out.now w.within.result w.within.ensures c.at_front.result c.feed-table.result c.feed-table.new.1.1.0 c.at_front.ensures c.feed-table.ensures
     c.if-used-gt0.false
