@@ -3,5 +3,5 @@ pub mod Settling
 pub mod Sound
 pub mod Written
 pub mod Received
-pub mod Live
+pub mod LiveMessages
 pub mod Calm

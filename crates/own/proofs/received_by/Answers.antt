@@ -1,7 +1,7 @@
 use mathlib.Core.Path.{◌≡◌, sym, ap, ◌∙◌}
 use borrow.Author.Rules.{rules}
 use Rattle.session.specs.Live.{with_live, with_fault}
-use Rattle.session.proofs.Live.{bfd-acts, fault-acts}
+use Rattle.session.proofs.LiveMessages.{bfd-acts, fault-acts}
 use Rattle.own.proofs.received_by.Goals as goal
 
 pub returns-then-is_fault : goal.returns-then-is_fault

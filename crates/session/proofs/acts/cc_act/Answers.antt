@@ -2,7 +2,7 @@ use mathlib.Core.Path.{◌≡◌, sym, ap, ◌∙◌}
 use Prim.Native.Nat.{ℕ}
 use Rattle.octets.specs.Choice.{or_else}
 use Rattle.session.specs.Reception.{bfd_answer}
-use Rattle.session.proofs.Live.{cc_crosses, cc-refused, cc-crossed, cc-heard}
+use Rattle.session.proofs.LiveMessages.{cc_crosses, cc-refused, cc-crossed, cc-heard}
 use borrow.Author.Rules.{rules}
 use Rattle.session.proofs.acts.cc_act.Goals as goal
 

@@ -3,7 +3,7 @@ use Rattle.bfd.specs.Packet.{packet_of}
 use Prim.Native.Nat.{ℕ}
 use Rattle.octets.specs.Choice.{or_else}
 use Rattle.session.specs.Reception.{bfd_answer}
-use Rattle.session.proofs.Live.{cv_crosses, cv-refused, cv-crossed, cv-heard}
+use Rattle.session.proofs.LiveMessages.{cv_crosses, cv-refused, cv-crossed, cv-heard}
 use borrow.Author.Rules.{rules}
 use Rattle.session.proofs.acts.cv_act.Goals as goal
 

@@ -3,7 +3,7 @@ use Rattle.octets.specs.Choice.{Answer, accepted, refused, Placed}
 use Rattle.fault.specs.declared.Fault.{Fault}
 use Rattle.fault.specs.declared.FaultAnswer.{FaultAnswer}
 use Rattle.fault.specs.Message.{said, read_fault}
-use Rattle.session.proofs.Live.{fault-read, fault-refused}
+use Rattle.session.proofs.LiveMessages.{fault-read, fault-refused}
 use borrow.Author.Rules.{rules}
 use Rattle.session.proofs.acts.fault_act.Goals as goal
 
