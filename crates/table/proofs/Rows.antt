@@ -209,12 +209,16 @@ find-inserted-other l here d = simp d
 find-inserted-other l (there {x = x} i) d = ap (cond (has_label l x) (some x)) (find-inserted-other l i d)
 
 -- an open record is the one that its label finds, where each label stands once
-pub found-own : (rs : List Session) (r : Session) → once (λ (a b : Session). eqb a.settings.label b.settings.label) rs ≡ true → Memᴰ r rs
+own-found : (r : Session) (rs : List Session) → once (λ (a b : Session). eqb a.settings.label b.settings.label) rs ≡ true → Memᴰ r rs
     → find r.settings.label rs ≡ some r
 unfolding find once
-found-own rs r a (Memᴰ.head {x = x} {xs} e) = rw (← e) (simp (eq-eqb r.settings.label r.settings.label refl))
-found-own rs r a (Memᴰ.tail {x = x} {xs} m) =
+own-found r rs a (Memᴰ.head {x = x} {xs} e) = rw (← e) (simp (eq-eqb r.settings.label r.settings.label refl))
+own-found r rs a (Memᴰ.tail {x = x} {xs} m) =
     let o = and_both (not (any (λ (b : Session). eqb x.settings.label b.settings.label) xs)) (once (λ (a b : Session). eqb a.settings.label b.settings.label) xs) a in
     split (has_label r.settings.label x)
     (λ q. no_way (any_at (λ (b : Session). eqb x.settings.label b.settings.label) m q) (not-true _ o.0))
-    (λ q. simp q (found-own xs r o.1 m))
+    (λ q. simp q (own-found r xs o.1 m))
+
+pub found-own : (rs : List Session) (r : Session) → once (λ (a b : Session). eqb a.settings.label b.settings.label) rs ≡ true → Memᴰ r rs
+    → find r.settings.label rs ≡ some r
+found-own rs r = own-found r rs
