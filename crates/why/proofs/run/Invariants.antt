@@ -10,7 +10,7 @@ use Rattle.why.proofs.run.Given as goal
 
 abbrev pub invariant-loop-turns : goal.invariant-loop-turns
 invariant-loop-turns l =
-    (length l.buf ≡ length l.initial.buf) × (length l.kept ≡ length l.initial.kept) × (l.go ≡ true → l.s.over ≡ false) × Reached l.label l.upto l.initial.kept (record { search = l.s; l.buf = l.buf; l.kept = l.kept })
+    (length l.buf ≡ length l.initial.buf) × (length l.kept ≡ length l.initial.kept) × (l.go ≡ true → l.s.over ≡ false) × Reached l.label l.upto l.initial.kept (record { search = l.s; buf = l.buf; kept = l.kept })
 
 abbrev pub decreases-loop-turns : goal.decreases-loop-turns
 decreases-loop-turns l = l.turns

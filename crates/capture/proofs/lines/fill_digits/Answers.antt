@@ -23,5 +23,5 @@ shape_of-out c = c.loop-left.invariant.1.0
 pub returns : goal.returns
 returns c = let a = c.args in
     let l = c.loop-left in
-    filled-typed a.n a.at a.count a.out.now c.requires.0 c.requires.1
+    filled-typed a.n a.at a.count a.out.now c.requires.count_value c.requires.count_in_bounds
     (sym (filled_none l.left a.at l.rest l.out c.loop-left-test.false) ∙ l.invariant.1.1)

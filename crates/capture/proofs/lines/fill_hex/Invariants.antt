@@ -12,7 +12,7 @@ use Rattle.capture.proofs.lines.fill_hex.Given as goal
 abbrev pub invariant-loop-i : goal.invariant-loop-i
 invariant-loop-i l =
     (l.i ≤ length l.octets) × ((length l.out ≡ length l.initial.out) × ((l.next ≡ l.at + 2 * l.i)
-    × (◌≡◌ {A = Put} (record { buffer = l.out; l.at = l.next }) (typed (record { buffer = l.initial.out; l.at = l.at }) (hex (take l.i l.octets))))))
+    × (◌≡◌ {A = Put} (record { buffer = l.out; at = l.next }) (typed (record { buffer = l.initial.out; at = l.at }) (hex (take l.i l.octets))))))
 
 abbrev pub decreases-loop-i : goal.decreases-loop-i
 decreases-loop-i l = length l.octets - l.i

@@ -16,7 +16,7 @@ loop-i-preserved c = let a = c.args in
     let l = c.loop-i in (
       omega arith,
       (
-        c.push-next-in-loop-i.auto.0 ∙ c.push-next.auto.0 ∙ l.invariant.1.0,
+        c.push-next-in-loop-i.auto.out ∙ c.push-next.auto.out ∙ l.invariant.1.0,
         hex-more (record { buffer = a.out.now; at = a.at }) a.octets.now l.i c.loop-i-test.true l.invariant.1.1
             c.hex_digit.ensures c.push-next.ensures c.hex_digit-in-loop-i.ensures c.push-next-in-loop-i.ensures,
       ),

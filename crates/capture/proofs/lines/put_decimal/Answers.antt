@@ -13,7 +13,7 @@ returns-then-n-lt10 c = let a = c.args in
 
 pub fill_digits-requires : goal.fill_digits-requires
 fill_digits-requires c =
-    let a = c.args in (
-      c.digit_count-count.ensures,
-      leb-true (a.at + c.digit_count-count.result) (length a.out.now) (sym c.has_room.ensures ∙ c.if-has_room.true),
-    )
+    let a = c.args in record {
+      count_value = c.digit_count-count.ensures;
+      count_in_bounds = leb-true (a.at + c.digit_count-count.result) (length a.out.now) (sym c.has_room.ensures ∙ c.if-has_room.true);
+    }

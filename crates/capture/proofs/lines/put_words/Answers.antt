@@ -16,7 +16,7 @@ loop-i-preserved c =
     let a = c.args in (
       omega arith,
       (
-        c.push-next.auto.0 ∙ l.invariant.1.0,
+        c.push-next.auto.out ∙ l.invariant.1.0,
         words_more (record { buffer = a.out.now; at = a.at }) a.words.now l.i c.loop-i-test.true l.invariant.1.1 c.push-next.ensures,
       ),
     )

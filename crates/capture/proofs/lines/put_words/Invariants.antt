@@ -11,7 +11,7 @@ use Rattle.capture.proofs.lines.put_words.Given as goal
 abbrev pub invariant-loop-i : goal.invariant-loop-i
 invariant-loop-i l =
     (l.i ≤ length l.words) × ((length l.out ≡ length l.initial.out)
-    × (◌≡◌ {A = Put} (record { buffer = l.out; l.at = l.next }) (typed (record { buffer = l.initial.out; l.at = l.at }) (take l.i l.words))))
+    × (◌≡◌ {A = Put} (record { buffer = l.out; at = l.next }) (typed (record { buffer = l.initial.out; at = l.at }) (take l.i l.words))))
 
 abbrev pub decreases-loop-i : goal.decreases-loop-i
 decreases-loop-i l = length l.words - l.i

@@ -9,6 +9,7 @@ use Rattle.rules.specs.Lists.{any}
 use Rattle.rules.proofs.Bools.{or_left}
 use Rattle.scan.proofs.KeyMarks.{any-take-none, any-take-more, any-take-all}
 use Rattle.scan.proofs.keys.among.Goals as goal
+use Rattle.scan.proofs.keys.among.Goals.{then-numbers-i, else-numbers-i}
 
 pub loop-i-init : goal.loop-i-init
 loop-i-init c = (omega arith, sym (any-take-none (eqb c.args.number) c.args.numbers.now))
@@ -19,10 +20,7 @@ loop-i-preserved c = let a = c.args in
     let h : l.i < length a.numbers.now = omega arith in
     let more = any-take-more (eqb a.number) a.numbers.now l.i h in (
       omega arith,
-      ⊎_elim
-          (λ w. w.1 ∙ sym (more ∙ or_left (any (eqb a.number) (take l.i a.numbers.now)) (eq-eqb a.number (get_or a.numbers.now l.i 0) (sym w.0.taken))))
-          (λ w. w.1 ∙ l.invariant.1 ∙ sym (more ∙ rw (ne_eqb a.number (get_or a.numbers.now l.i 0) (λ z. w.0.left (sym z)))))
-          c.if-numbers-i.branch,
+      elim c.if-numbers-i.branch [ then-numbers-i w ↦ w.found-is ∙ sym (more ∙ or_left (any (eqb a.number) (take l.i a.numbers.now)) (eq-eqb a.number (get_or a.numbers.now l.i 0) (sym w.if-numbers-i.true))) | else-numbers-i w ↦ w.found-is ∙ l.invariant.1 ∙ sym (more ∙ rw (ne_eqb a.number (get_or a.numbers.now l.i 0) (λ z. w.if-numbers-i.false (sym z)))) ],
     )
 
 pub returns : goal.returns

@@ -12,6 +12,7 @@ use Rattle.rules.proofs.Bools.{or_cases}
 use Rattle.scan.specs.Distinct.{key_in, filled, keys, reach_of, distinct_in}
 use Rattle.scan.proofs.KeyMarks.{Seen, numbers, reach-most, and-false, found-kept, stands-either, new-within, twice, neither, keys-same, keys-more, numbers-same, numbers_more, apart_more, distinct-all, seen_none, seen-new, seen-still, seen_next}
 use Rattle.scan.proofs.keys.distinct.Goals as goal
+use Rattle.scan.proofs.keys.distinct.Goals.{then-pair-ne0, then-either+then-either-2+else-key_stands, then-either+else-either-2, else-either, else-pair-ne0}
 
 pub loop-i-init : goal.loop-i-init
 unfolding filled numbers once any
@@ -43,46 +44,44 @@ loop-i-preserved c = let a = c.args in
     let apart = l.invariant.1.1.1.1 in
     let rest : (Seen (keys true (l.i + 1) a.pairs.now) (l.i + 1) c.if-pair-ne0.labels c.if-pair-ne0.own × Seen (numbers (l.i + 1) a.pairs.now) (l.i + 1) c.if-pair-ne0.others c.if-pair-ne0.far)
     × ((once eqb (0 ∷ keys true (l.i + 1) a.pairs.now) ≡ true) × (once eqb (0 ∷ keys false (l.i + 1) a.pairs.now) ≡ true)) =
-    ⊎_elim
-    (λ w.
-    let x = w.1.ensures in
-    let y = w.2.ensures in
-    let taken = w.0.taken in
-    let both : (any (eqb (key_in true pair)) (0 ∷ keys true l.i a.pairs.now) ≡ false) × (any (eqb (key_in false pair)) (0 ∷ keys false l.i a.pairs.now) ≡ false) =
-    ⊎_elim
-    (λ v. neither _ _ (sym (stands-either a.pairs.now l.i pair) ∙ sym v.7.ensures ∙ v.8.left))
-    (λ u. ⊎_elim
-    (λ v.
-    let m = neither v.2.result v.4.result (sym v.5.ensures ∙ v.6.left) in (
-      sym (found-kept _ _ _ _ own (key_in true pair) k) ∙ ap (λ (z : ℕ). any (eqb z) l.own) (sym x) ∙ sym v.2.ensures ∙ m.0,
-      new-within a.pairs.now l.i pair
-          (sym (found-kept _ _ _ _ far (pair / 4294967296) k) ∙ ap (λ (z : ℕ). any (eqb z) l.far) (sym y) ∙ sym v.4.ensures ∙ m.1),
-    ))
-    (λ v.
-    let m = neither (get_or l.labels (w.1.result % 1024) false) (get_or l.others (w.2.result % 1024) false) (sym w.3.ensures ∙ v.left) in (
-      seen-new _ _ _ _ own (key_in true pair) (ap (λ (z : ℕ). get_or l.labels (z % 1024) false) (sym x) ∙ m.0),
-      new-within a.pairs.now l.i pair (seen-new _ _ _ _ far (pair / 4294967296) (ap (λ (z : ℕ). get_or l.others (z % 1024) false) (sym y) ∙ m.1)),
-    ))
-    u)
-    w.4.came in (
-      (
-        seen_next _ _ l.i l.labels _ l.own _ (key_in true pair) w.1.result own k x (keys-more true a.pairs.now l.i h taken) w.5 w.7,
-        seen_next _ _ l.i l.others _ l.far _ (pair / 4294967296) w.2.result far k y (numbers_more a.pairs.now l.i h taken) w.6 w.8,
-      ),
-      (
-        apart_more _ _ (key_in true pair) apart.0 both.0 (keys-more true a.pairs.now l.i h taken),
-        apart_more _ _ (key_in false pair) apart.1 both.1 (keys-more false a.pairs.now l.i h taken),
-      ),
-    ))
-    (λ w.
-    let left = w.0.left in (
-      (
-        seen-still _ _ l.i l.labels _ l.own _ own (keys-same true a.pairs.now l.i h left) w.1 w.3,
-        seen-still _ _ l.i l.others _ l.far _ far (numbers-same a.pairs.now l.i h left) w.2 w.4,
-      ),
-      (rw (keys-same true a.pairs.now l.i h left) apart.0, rw (keys-same false a.pairs.now l.i h left) apart.1),
-    ))
-    c.if-pair-ne0.branch in
+    elim c.if-pair-ne0.branch [
+      | then-pair-ne0 w ↦
+          let x = w.label_in-l.ensures in
+          let y = w.discriminator_in-d.ensures in
+          let taken = w.if-pair-ne0.true in
+          let both : (any (eqb (key_in true pair)) (0 ∷ keys true l.i a.pairs.now) ≡ false) × (any (eqb (key_in false pair)) (0 ∷ keys false l.i a.pairs.now) ≡ false) =
+          elim w.if-either.branch [
+            | then-either+then-either-2+else-key_stands v ↦ neither _ _ (sym (stands-either a.pairs.now l.i pair) ∙ sym v.key_stands.ensures ∙ v.if-key_stands.false)
+            | then-either+else-either-2 v ↦
+                let m = neither v.among.result v.among-then-either.result (sym v.either-then-either.ensures ∙ v.if-either-2.false) in (
+                  sym (found-kept _ _ _ _ own (key_in true pair) k) ∙ ap (λ (z : ℕ). any (eqb z) l.own) (sym x) ∙ sym v.among.ensures ∙ m.0,
+                  new-within a.pairs.now l.i pair
+                      (sym (found-kept _ _ _ _ far (pair / 4294967296) k) ∙ ap (λ (z : ℕ). any (eqb z) l.far) (sym y) ∙ sym v.among-then-either.ensures ∙ m.1),
+                )
+            | else-either v ↦
+                let m = neither (get_or l.labels (w.label_in-l.result % 1024) false) (get_or l.others (w.discriminator_in-d.result % 1024) false) (sym w.either.ensures ∙ v.if-either.false) in (
+                  seen-new _ _ _ _ own (key_in true pair) (ap (λ (z : ℕ). get_or l.labels (z % 1024) false) (sym x) ∙ m.0),
+                  new-within a.pairs.now l.i pair (seen-new _ _ _ _ far (pair / 4294967296) (ap (λ (z : ℕ). get_or l.others (z % 1024) false) (sym y) ∙ m.1)),
+                )
+          ] in (
+            (
+              seen_next _ _ l.i l.labels _ l.own _ (key_in true pair) w.label_in-l.result own k x (keys-more true a.pairs.now l.i h taken) w.labels-is w.own-is,
+              seen_next _ _ l.i l.others _ l.far _ (pair / 4294967296) w.discriminator_in-d.result far k y (numbers_more a.pairs.now l.i h taken) w.others-is w.far-is,
+            ),
+            (
+              apart_more _ _ (key_in true pair) apart.0 both.0 (keys-more true a.pairs.now l.i h taken),
+              apart_more _ _ (key_in false pair) apart.1 both.1 (keys-more false a.pairs.now l.i h taken),
+            ),
+          )
+      | else-pair-ne0 w ↦
+          let left = w.if-pair-ne0.false in (
+            (
+              seen-still _ _ l.i l.labels _ l.own _ own (keys-same true a.pairs.now l.i h left) w.labels-is w.own-is,
+              seen-still _ _ l.i l.others _ l.far _ far (numbers-same a.pairs.now l.i h left) w.others-is w.far-is,
+            ),
+            (rw (keys-same true a.pairs.now l.i h left) apart.0, rw (keys-same false a.pairs.now l.i h left) apart.1),
+          )
+    ] in
     (omega arith, (l.invariant.1.0, (l.invariant.1.1.0, rest)))
 
 pub returns : goal.returns

@@ -11,6 +11,7 @@ use Rattle.rules.specs.Lists.{once}
 use Rattle.scan.specs.Distinct.{filled, once_in}
 use Rattle.scan.proofs.Noted.{still-once, once_more, twice-noted}
 use Rattle.scan.proofs.keys.each_once.Goals as goal
+use Rattle.scan.proofs.keys.each_once.Goals.{then-key-ne0+else-stands_before, else-key-ne0}
 
 pub loop-i-init : goal.loop-i-init
 loop-i-init c = (omega arith, unfold filled once in refl)
@@ -26,10 +27,7 @@ loop-i-preserved c = let a = c.args in
     let l = c.loop-i in
     let h : l.i < length a.keys.now = omega arith in (
       omega arith,
-      ⊎_elim
-          (λ w. once_more a.keys.now l.i h w.0.taken (sym w.1.ensures ∙ w.2.left) l.invariant.1)
-          (λ w. still-once a.keys.now l.i h w.left l.invariant.1)
-          c.if-key-ne0.branch,
+      elim c.if-key-ne0.branch [ then-key-ne0+else-stands_before w ↦ once_more a.keys.now l.i h w.if-key-ne0.true (sym w.stands_before.ensures ∙ w.if-stands_before.false) l.invariant.1 | else-key-ne0 w ↦ still-once a.keys.now l.i h w.if-key-ne0.false l.invariant.1 ],
     )
 
 pub returns : goal.returns

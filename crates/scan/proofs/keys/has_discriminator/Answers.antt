@@ -11,10 +11,9 @@ use Rattle.rules.specs.Lists.{any}
 use Rattle.rules.proofs.Bools.{or_left}
 use Rattle.scan.specs.Distinct.{reach_of}
 use Rattle.scan.proofs.KeyMarks.{any-take-none, any-take-more, take-most}
+use Rattle.scan.proofs.keys.has_discriminator.Invariants.{test}
 use Rattle.scan.proofs.keys.has_discriminator.Goals as goal
-
-abbrev test : ℕ → ℕ → Bool
-test discriminator p = eqb (p / 4294967296) discriminator
+use Rattle.scan.proofs.keys.has_discriminator.Goals.{then-discriminator_in-discriminator, else-discriminator_in-discriminator}
 
 pub loop-i-init : goal.loop-i-init
 loop-i-init c = let a = c.args in
@@ -29,10 +28,7 @@ loop-i-preserved c = let a = c.args in
       omega arith,
       (
         l.invariant.1.0,
-        ⊎_elim
-            (λ w. w.1 ∙ sym (more ∙ or_left (any (test a.discriminator) (take l.i a.pairs.now)) (eq-eqb (get_or a.pairs.now l.i 0 / 4294967296) a.discriminator (sym e ∙ w.0.taken))))
-            (λ w. w.1 ∙ l.invariant.1.1 ∙ sym (more ∙ rw (ne_eqb (get_or a.pairs.now l.i 0 / 4294967296) a.discriminator (λ z. w.0.left (e ∙ z)))))
-            c.if-discriminator_in-discriminator.branch,
+        elim c.if-discriminator_in-discriminator.branch [ then-discriminator_in-discriminator w ↦ w.found-is ∙ sym (more ∙ or_left (any (test a.discriminator) (take l.i a.pairs.now)) (eq-eqb (get_or a.pairs.now l.i 0 / 4294967296) a.discriminator (sym e ∙ w.if-discriminator_in-discriminator.true))) | else-discriminator_in-discriminator w ↦ w.found-is ∙ l.invariant.1.1 ∙ sym (more ∙ rw (ne_eqb (get_or a.pairs.now l.i 0 / 4294967296) a.discriminator (λ z. w.if-discriminator_in-discriminator.false (e ∙ z)))) ],
       ),
     )
 

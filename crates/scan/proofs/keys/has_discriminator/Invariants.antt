@@ -13,6 +13,9 @@ use Rattle.scan.specs.Distinct.{reach_of}
 use Rattle.scan.proofs.KeyMarks.{any-take-none, any-take-more, take-most}
 use Rattle.scan.proofs.keys.has_discriminator.Given as goal
 
+abbrev pub test : ℕ → ℕ → Bool
+test discriminator p = eqb (p / 4294967296) discriminator
+
 -- i pairs are compared
 abbrev pub invariant-loop-i : goal.invariant-loop-i
 invariant-loop-i l =

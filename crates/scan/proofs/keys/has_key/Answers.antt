@@ -11,10 +11,9 @@ use Rattle.rules.specs.Lists.{any}
 use Rattle.rules.proofs.Bools.{or_left}
 use Rattle.scan.specs.Distinct.{key_in, reach_of}
 use Rattle.scan.proofs.KeyMarks.{any-take-none, any-take-more, take-most}
+use Rattle.scan.proofs.keys.has_key.Invariants.{test}
 use Rattle.scan.proofs.keys.has_key.Goals as goal
-
-abbrev test : ℕ → ℕ → Bool
-test key p = eqb (key_in false p) key
+use Rattle.scan.proofs.keys.has_key.Goals.{then-own_in-key, else-own_in-key}
 
 pub loop-i-init : goal.loop-i-init
 loop-i-init c = let a = c.args in
@@ -29,10 +28,7 @@ loop-i-preserved c = let a = c.args in
       omega arith,
       (
         l.invariant.1.0,
-        ⊎_elim
-            (λ w. w.1 ∙ sym (more ∙ or_left (any (test a.key) (take l.i a.pairs.now)) (eq-eqb (key_in false (get_or a.pairs.now l.i 0)) a.key (sym e ∙ w.0.taken))))
-            (λ w. w.1 ∙ l.invariant.1.1 ∙ sym (more ∙ rw (ne_eqb (key_in false (get_or a.pairs.now l.i 0)) a.key (λ z. w.0.left (e ∙ z)))))
-            c.if-own_in-key.branch,
+        elim c.if-own_in-key.branch [ then-own_in-key w ↦ w.found-is ∙ sym (more ∙ or_left (any (test a.key) (take l.i a.pairs.now)) (eq-eqb (key_in false (get_or a.pairs.now l.i 0)) a.key (sym e ∙ w.if-own_in-key.true))) | else-own_in-key w ↦ w.found-is ∙ l.invariant.1.1 ∙ sym (more ∙ rw (ne_eqb (key_in false (get_or a.pairs.now l.i 0)) a.key (λ z. w.if-own_in-key.false (e ∙ z)))) ],
       ),
     )
 

@@ -13,6 +13,9 @@ use Rattle.scan.specs.Distinct.{key_in, reach_of}
 use Rattle.scan.proofs.KeyMarks.{any-take-none, any-take-more, take-most}
 use Rattle.scan.proofs.keys.has_key.Given as goal
 
+abbrev pub test : ℕ → ℕ → Bool
+test key p = eqb (key_in false p) key
+
 -- i pairs are compared
 abbrev pub invariant-loop-i : goal.invariant-loop-i
 invariant-loop-i l =

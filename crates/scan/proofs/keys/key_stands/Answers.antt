@@ -10,11 +10,9 @@ use Rattle.rules.specs.Lists.{any}
 use Rattle.rules.proofs.Bools.{or_right}
 use Rattle.scan.specs.Distinct.{key_in, alike, key_stands}
 use Rattle.scan.proofs.KeyMarks.{any-take-none, any-take-more, take-most}
+use Rattle.scan.proofs.keys.key_stands.Invariants.{no_key}
 use Rattle.scan.proofs.keys.key_stands.Goals as goal
-
--- a key is 0
-abbrev no_key : ℕ → Bool
-no_key pair = eqb (key_in true pair) 0 || eqb (key_in false pair) 0
+use Rattle.scan.proofs.keys.key_stands.Goals.{then-is_alike, else-is_alike}
 
 or-none : (a : Bool) → a ≡ a || false
 or-none true = λ i. true
@@ -45,10 +43,7 @@ loop-i-preserved c = let a = c.args in
       omega arith,
       (
         l.invariant.1.0,
-        ⊎_elim
-            (λ w. w.1 ∙ one_more (no_key a.pair) this before (sym e ∙ w.0.taken) ∙ sym more)
-            (λ w. w.1 ∙ l.invariant.1.1 ∙ sym (more ∙ ap (λ (b : Bool). no_key a.pair || (b || before)) (sym e ∙ w.0.left)))
-            c.if-is_alike.branch,
+        elim c.if-is_alike.branch [ then-is_alike w ↦ w.found-is ∙ one_more (no_key a.pair) this before (sym e ∙ w.if-is_alike.true) ∙ sym more | else-is_alike w ↦ w.found-is ∙ l.invariant.1.1 ∙ sym (more ∙ ap (λ (b : Bool). no_key a.pair || (b || before)) (sym e ∙ w.if-is_alike.false)) ],
       ),
     )
 

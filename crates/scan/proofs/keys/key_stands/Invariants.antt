@@ -12,6 +12,10 @@ use Rattle.scan.specs.Distinct.{key_in, alike, key_stands}
 use Rattle.scan.proofs.KeyMarks.{any-take-none, any-take-more, take-most}
 use Rattle.scan.proofs.keys.key_stands.Given as goal
 
+-- a key is 0
+abbrev pub no_key : ℕ → Bool
+no_key pair = eqb (key_in true pair) 0 || eqb (key_in false pair) 0
+
 -- i pairs are compared
 abbrev pub invariant-loop-i : goal.invariant-loop-i
 invariant-loop-i l =

@@ -10,6 +10,7 @@ use borrow.Author.Tests.{eq-eqb, ne_eqb}
 use Rattle.rules.specs.Lists.{any}
 use Rattle.scan.proofs.KeyMarks.{any-take-none, any-take-more, take-most}
 use Rattle.scan.proofs.keys.stands_before.Goals as goal
+use Rattle.scan.proofs.keys.stands_before.Goals.{then-keys-i, else-keys-i}
 
 pub loop-i-init : goal.loop-i-init
 loop-i-init c = let a = c.args in
@@ -25,10 +26,7 @@ loop-i-preserved c = let a = c.args in
       omega arith,
       (
         l.invariant.1.0,
-        ⊎_elim
-            (λ w. w.1 ∙ sym (more ∙ ap (λ (b : Bool). b || before) (eq-eqb a.key x (sym w.0.taken))))
-            (λ w. w.1 ∙ l.invariant.1.1 ∙ sym (more ∙ ap (λ (b : Bool). b || before) (ne_eqb a.key x (λ z. w.0.left (sym z)))))
-            c.if-keys-i.branch,
+        elim c.if-keys-i.branch [ then-keys-i w ↦ w.found-is ∙ sym (more ∙ ap (λ (b : Bool). b || before) (eq-eqb a.key x (sym w.if-keys-i.true))) | else-keys-i w ↦ w.found-is ∙ l.invariant.1.1 ∙ sym (more ∙ ap (λ (b : Bool). b || before) (ne_eqb a.key x (λ z. w.if-keys-i.false (sym z)))) ],
       ),
     )
 

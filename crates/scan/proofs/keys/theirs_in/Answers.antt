@@ -12,10 +12,8 @@ use Rattle.rules.proofs.Counting.{one_if, count}
 use Rattle.rules.proofs.TwoParties.{party-most}
 use Rattle.scan.specs.Distinct.{key_in}
 use Rattle.scan.proofs.KeyMarks.{count-take-none, count-take-more}
+use Rattle.scan.proofs.keys.theirs_in.Invariants.{test}
 use Rattle.scan.proofs.keys.theirs_in.Goals as goal
-
-abbrev test : ℕ → Bool
-test p = is_of 1 (key_in true p)
 
 -- one more for a label that is theirs
 one-party : (l n : ℕ) → one_if (is_of 1 l) n ≡ n + party_of l

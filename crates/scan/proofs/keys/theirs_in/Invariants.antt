@@ -14,6 +14,9 @@ use Rattle.scan.specs.Distinct.{key_in}
 use Rattle.scan.proofs.KeyMarks.{count-take-none, count-take-more}
 use Rattle.scan.proofs.keys.theirs_in.Given as goal
 
+abbrev pub test : ℕ → Bool
+test p = is_of 1 (key_in true p)
+
 -- i pairs are counted
 abbrev pub invariant-loop-i : goal.invariant-loop-i
 invariant-loop-i l = (l.i ≤ length l.pairs) × ((l.theirs ≤ l.i) × (l.theirs ≡ count test (take l.i l.pairs)))
