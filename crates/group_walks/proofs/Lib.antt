@@ -1,4 +1,0 @@
-pub mod AskTwice
-pub mod EitherLent
-pub mod ThinGiven
-pub mod ThinHeard
