@@ -1,3 +1,4 @@
 pub mod Plains
 pub mod StepParts
 pub mod RecordOfRow
+pub mod Searched
