@@ -1,3 +1,4 @@
 pub mod Plain
 pub mod Branches
 pub mod ByWalk
+pub mod AtPlace
