@@ -1,4 +1,2 @@
 pub mod Calling
 pub mod Turns
-pub mod FedPlain
-pub mod RecordPlain
