@@ -27,7 +27,6 @@ use Rattle.capture.specs.Records.{record_in, record_from, body_in, settings_in, 
 use Rattle.capture.specs.Lines.{line, numbered, is_readers, plain_line, placed_line, report_line, octets_line}
 use Rattle.capture.specs.Typing.{Put, typed}
 use Rattle.capture.proofs.LineSaid.{is_plain, has_place, line_refused, line_plain, line-placed, line-report, line-cc, line-cv, written}
-use Rattle.walks.proofs.Branches.{held-is, failed-is}
 use Rattle.feed.specs.Feeding.{longest, more_of, head_of, Flow, call_next, turn_of, go_on, feed_of}
 use Rattle.feed.specs.Calling.{body_at, Whole as Lengths, Calls, is_unread, refused_line, line_by, behind_of, Answered, answered}
 use Rattle.feed.specs.declared.Fed.{Fed}
@@ -300,14 +299,14 @@ unfolding turn_of
 turn-used input x = refl
 
 -- where there is no more, nothing more is done; where there is, one record
-pub stops : (input : List ℕ) (n : ℕ) (x : Flow) → Holds (not (more_of x.fed input (length x.out))) → go_on input n x ≡ x
+pub stops : (input : List ℕ) (n : ℕ) (x : Flow) → more_of x.fed input (length x.out) ≡ false → go_on input n x ≡ x
 unfolding go_on
 stops input zero x h = refl
-stops input (suc n) x h = ap (λ (t : Bool). cond t (go_on input n (turn_of input x)) x) (failed-is (more_of x.fed input (length x.out)) h)
+stops input (suc n) x h = ap (λ (t : Bool). cond t (go_on input n (turn_of input x)) x) h
 
-pub goes_on_lem : (input : List ℕ) (n : ℕ) (x : Flow) → Holds (more_of x.fed input (length x.out)) → go_on input (suc n) x ≡ go_on input n (turn_of input x)
+pub goes_on_lem : (input : List ℕ) (n : ℕ) (x : Flow) → more_of x.fed input (length x.out) ≡ true → go_on input (suc n) x ≡ go_on input n (turn_of input x)
 unfolding go_on
-goes_on_lem input n x h = ap (λ (t : Bool). cond t (go_on input n (turn_of input x)) x) (held-is (more_of x.fed input (length x.out)) h)
+goes_on_lem input n x h = ap (λ (t : Bool). cond t (go_on input n (turn_of input x)) x) h
 
 pub begins : (row : List Session) (f : Fed) (input out : List ℕ) → go_on input (length input) (flow row f out) ≡ feed_of row f input out
 unfolding feed_of
