@@ -1,3 +1,0 @@
-pub mod FeedingPlain
-pub mod SessionArray
-pub mod OwnRow
