@@ -1,6 +1,4 @@
-pub mod TracePlains
 pub mod Turns
 pub mod Ways
+pub mod Going
 pub mod Traces
-pub mod ShownRow
-pub mod AskedRow
