@@ -3,18 +3,18 @@
 use mathlib.Core.Path.{◌≡◌, refl, sym, ap, ◌∙◌}
 use mathlib.Core.Bool.{Bool, true, false, cond, ◌&&◌}
 use mathlib.Core.List.{List, [], ◌∷◌, ◌++◌}
-use Prim.Native.Nat.{ℕ, zero, suc, ◌+◌, ◌≤◌, ◌<◌}
+use Prim.Native.Nat.{ℕ, suc, ◌+◌, ◌≤◌}
 use native.Mathlib.Omega.{arith}
 use lib.Dec.{ltb, eqb}
-use borrow.Author.Tests.{lt-ltb, le-ltb, ltb-true, ltb-false, eq-eqb, ne_eqb, eqb-true, eqb-false}
+use borrow.Author.Tests.{lt-ltb, le-ltb, ltb-true, ltb-false, ne_eqb, eqb-true, eqb-false}
 use lib.IntN.{ℤ, pos, negsuc, nat_abs, sub_ℕ, ◌+ℤ◌, +ℤ_assoc, +ℤ_idl, +ℤ_idr}
 use lib.Signed.{lt_z, mag}
 use Rattle.account.specs.declared.Account.{Account}
 use Rattle.account.specs.Figures.{Exact, none, one, lesser, greater, chosen, joined, exact, fits, fit, given, refused, finished}
-use Rattle.account.specs.Accounts.{numbers_of, kept, spent, account_of, combined, added, finished_of}
+use Rattle.account.specs.Accounts.{kept, spent, account_of, combined, added, finished_of}
 use Rattle.account.proofs.Integers.{split}
 use Rattle.account.proofs.Kept.{cond_yes, cond_no}
-use Rattle.account.proofs.Made.{fit-pairs, fit-sizes, fit-three, mag-size}
+use Rattle.account.proofs.Made.{fit-sizes, fit-three, mag-size}
 
 no : {A : Type 0} → ◌≡◌ {A = Bool} true false → A
 no e = absurd (let z : ◌≡◌ {A = ℕ} 0 1 = cc in omega arith)

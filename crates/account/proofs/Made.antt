@@ -4,14 +4,13 @@ use mathlib.Core.Path.{◌≡◌, refl, sym, ap, ◌∙◌}
 use mathlib.Core.Bool.{Bool, true, false, cond, ◌&&◌}
 use Prim.Native.Nat.{ℕ, ◌+◌, ◌≤◌}
 use native.Mathlib.Omega.{arith}
-use lib.Dec.{ltb, eqb}
+use lib.Dec.{eqb}
 use borrow.Author.Tests.{le-ltb, ltb-false}
 use lib.IntN.{ℤ, pos, negsuc, nat_abs, ◌+ℤ◌}
 use lib.Signed.{lt_z, mag}
 use mir.Syntax.{w64}
 use mir.Val.{SFits}
 use Rattle.account.specs.declared.Account.{Account}
-use Rattle.account.specs.declared.Spaced.{Spaced}
 use Rattle.account.specs.Figures.{Exact, one, lesser, greater, chosen, joined, fits, fit, given, refused, finished}
 use Rattle.account.specs.Accounts.{signed, counted, numbers_of, kept, spent, account_of, made, combined, added, finished_of}
 use Rattle.account.proofs.Integers.{split, fits-true}

@@ -6,7 +6,7 @@ use mir.Val.{SFits}
 use mir.ValLaws.{to_z-of_z}
 use Rattle.account.specs.declared.Account.{Account}
 use Rattle.account.specs.declared.Signed.{Signed}
-use Rattle.account.specs.Figures.{error_of, fits, one}
+use Rattle.account.specs.Figures.{error_of, one}
 use Rattle.account.specs.Accounts.{signed, kept, combined}
 use Rattle.account.proofs.Kept.{cond_yes}
 use Rattle.account.proofs.Made.{added-single, added-over}

@@ -8,11 +8,7 @@ use Rattle.account.specs.Figures.{lesser, greater, chosen}
 use Rattle.account.specs.Accounts.{signed, made}
 use Rattle.account.proofs.Integers.{small}
 use Rattle.account.proofs.Made.{combined-over, combined-other, combined-made}
-use Rattle.account.proofs.combine.Lts as lts
 use Rattle.account.proofs.combine.Goals as goal
-
-other-sum : (c : lts.After-struct-told6) → SFits w64 c.args.b.sum
-other-sum c = search rules
 
 pub returns-then-a : goal.returns-then-a
 returns-then-a c = c.overrun.ensures ∙ combined-over c.args.a c.args.b c.if-a.true
@@ -34,7 +30,7 @@ returns c =
     let greatest : ◌≡◌ {A = ℤ} (to_z w64 (of_z w64 c.greatest_of-greatest.result)) (chosen greater a.pairs a.greatest b.pairs b.greatest) =
     to_z-of_z w64 _ (small _ c.greatest_of-greatest.type_inv) ∙ c.greatest_of-greatest.ensures ∙ rw (to_z-of_z w64 a.greatest ag, to_z-of_z w64 b.greatest bg) in
     let fa : SFits w64 a.sum = search rules in
-    let fb : SFits w64 b.sum = other-sum c in
+    let fb : SFits w64 b.sum = search rules in
     let sum : c.sum_in-sum.result ≡ signed (a.sum +ℤ b.sum) = c.sum_in-sum.ensures ∙ rw (to_z-of_z w64 a.sum fa, to_z-of_z w64 b.sum fb) in
     c.make.ensures
     ∙ (λ i. made (c.total-pairs.ensures i) (least i) (greatest i) (sum i) (c.total-sizes.ensures i))

@@ -1,7 +1,5 @@
-use mathlib.Core.Path.{◌≡◌, sym, ap, ◌∙◌}
+use mathlib.Core.Path.{sym, ap, ◌∙◌}
 use native.Mathlib.Omega.{arith}
-use borrow.Author.Rules.{rules}
-use lib.IntN.{ℤ}
 use Rattle.account.specs.Figures.{error_of}
 use Rattle.account.specs.Accounts.{signed}
 use Rattle.account.proofs.Integers.{all-behind, all_short, all-ahead}

@@ -1,8 +1,6 @@
-use mathlib.Core.Path.{sym, ◌∙◌}
+use mathlib.Core.Path.{◌∙◌}
 use mir.Syntax.{w64}
 use mir.ValLaws.{to_z-of_z}
-use Rattle.account.proofs.numbers.lesser_of.Reads as reads
-use Rattle.account.proofs.numbers.lesser_of.Lts as lts
 use Rattle.account.proofs.numbers.lesser_of.Goals as goal
 
 pub returns-then-a-b : goal.returns-then-a-b

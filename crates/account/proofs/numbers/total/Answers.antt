@@ -1,6 +1,5 @@
 use Prim.Native.Nat.{◌+◌}
 use native.Mathlib.Omega.{arith}
-use borrow.Author.Rules.{rules}
 use borrow.Author.Tests.{lt-ltb, le-ltb}
 use Rattle.account.proofs.Kept.{counted-yes, counted-no}
 use Rattle.account.proofs.numbers.total.Goals as goal
