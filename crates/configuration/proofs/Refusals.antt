@@ -292,11 +292,13 @@ module _ (test : Entry → Bool) where
 
   none-at : (e : Entry) (es : List Entry) → count test es ≡ 0 → Memᴰ e es → test e ≡ true → ⊥
   unfolding only
+  none-at e [] h m t = elim m [ ]
   none-at e (f ∷ es) h (Memᴰ.head q) t = let u : test f ≡ true = ap test (sym q) ∙ t in omega (arith, rw u at h)
   none-at e (f ∷ es) h (Memᴰ.tail m) t = split (test f) (λ u. omega (arith, rw u at h)) (λ u. none-at e es (rw u at h) m t)
 
   pub number-of-one : (v : ℕ) (e : Entry) (es : List Entry) → count test es ≡ 1 → Memᴰ e es → test e ≡ true → number_in test v es ≡ number_at 4 e.value 0
   unfolding number_in only
+  number-of-one v e [] h m t = elim m [ ]
   number-of-one v e (f ∷ es) h (Memᴰ.head q) t =
       let u : test f ≡ true = ap test (sym q) ∙ t in
       let z : count test es ≡ 0 = omega (arith, rw u at h) in
