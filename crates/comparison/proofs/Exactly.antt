@@ -139,22 +139,29 @@ before n m f (x ∷ xs) (y ∷ ys) l k =
 of_number : (n k f : ℕ) (xs ys : List Raw) → f < 8 → contains (entry (n + k) f) (differences n xs ys) ≡ to_list f (behind xs k) (behind ys k)
 unfolding differences
 of_number n k f [] [] l = refl
-of_number n zero f [] (y ∷ ys) l = rw add-zero (rw (same-entry n f 6, before (suc n) n f [] ys (omega arith) l) (or-false (eqb f 6)))
+of_number n zero f [] (y ∷ ys) l =
+    ap (λ (m : ℕ). contains (entry m f) (differences n [] (y ∷ ys))) (add-zero n)
+    ∙ rw (same-entry n f 6, before (suc n) n f [] ys (omega arith) l) (or-false (eqb f 6))
 of_number n (suc k) f [] (y ∷ ys) l =
     let e : n + suc k ≡ suc n + k = omega arith in
-    rw (ne_eqb (entry (n + suc k) f) (entry n 6) (λ z. omega arith), e) (of_number (suc n) k f [] ys l)
-of_number n zero f (x ∷ xs) [] l = rw add-zero (rw (same-entry n f 5, before (suc n) n f xs [] (omega arith) l) (or-false (eqb f 5)))
+    rw (ne_eqb (entry (n + suc k) f) (entry n 6) (λ z. omega arith))
+    (ap (λ (m : ℕ). contains (entry m f) (differences (suc n) [] ys)) e ∙ of_number (suc n) k f [] ys l)
+of_number n zero f (x ∷ xs) [] l =
+    ap (λ (m : ℕ). contains (entry m f) (differences n (x ∷ xs) [])) (add-zero n)
+    ∙ rw (same-entry n f 5, before (suc n) n f xs [] (omega arith) l) (or-false (eqb f 5))
 of_number n (suc k) f (x ∷ xs) [] l =
     let e : n + suc k ≡ suc n + k = omega arith in
-    rw (ne_eqb (entry (n + suc k) f) (entry n 5) (λ z. omega arith), e) (of_number (suc n) k f xs [] l)
+    rw (ne_eqb (entry (n + suc k) f) (entry n 5) (λ z. omega arith))
+    (ap (λ (m : ℕ). contains (entry m f) (differences (suc n) xs [])) e ∙ of_number (suc n) k f xs [] l)
 of_number n zero f (x ∷ xs) (y ∷ ys) l =
-    rw add-zero
-    (holds-joined (entry n f) (map (entry n) (fields_of x y)) (differences (suc n) xs ys)
-    ∙ rw (holds-code n f (fields_of x y), before (suc n) n f xs ys (omega arith) l) (or-false (contains f (fields_of x y)) ∙ fields-hold x y f))
+    ap (λ (m : ℕ). contains (entry m f) (differences n (x ∷ xs) (y ∷ ys))) (add-zero n)
+    ∙ holds-joined (entry n f) (map (entry n) (fields_of x y)) (differences (suc n) xs ys)
+    ∙ rw (holds-code n f (fields_of x y), before (suc n) n f xs ys (omega arith) l) (or-false (contains f (fields_of x y)) ∙ fields-hold x y f)
 of_number n (suc k) f (x ∷ xs) (y ∷ ys) l =
     let e : n + suc k ≡ suc n + k = omega arith in
     holds-joined (entry (n + suc k) f) (map (entry n) (fields_of x y)) (differences (suc n) xs ys)
-    ∙ rw (fields-far x y n (entry (n + suc k) f) (λ c b z. omega arith), e) (of_number (suc n) k f xs ys l)
+    ∙ rw (fields-far x y n (entry (n + suc k) f) (λ c b z. omega arith))
+    (ap (λ (m : ℕ). contains (entry m f) (differences (suc n) xs ys)) e ∙ of_number (suc n) k f xs ys l)
 
 -- ---- the theorems
 -- 8 n + f is listed exactly if record n of both is there and field f differs, or n is in one only and f says whose. Every number is 8 n + f for one n and

@@ -7,8 +7,8 @@ use Rattle.comparison.proofs.pair.step_of.Goals as goal
 
 pub returns-then-not-stands : goal.returns-then-not-stands
 returns-then-not-stands c = let s = c.args.s.now in
-    (sym (step-none s (sym c.stands.ensures ∙ not-true c.stands.result c.if-not-stands.true)), omega arith)
+    (sym (step-none s (sym c.stands.ensures ∙ c.if-not-stands.true)), omega arith)
 
 pub returns : goal.returns
 returns c = let s = c.args.s.now in
-    step-read s c.record_at-r.result c.record_at-r.ensures (sym c.stands.ensures ∙ not-false c.stands.result c.if-not-stands.false)
+    step-read s c.record_at-r.result c.record_at-r.ensures (sym c.stands.ensures ∙ c.if-not-stands.false)

@@ -18,11 +18,11 @@ again : (s : List ℕ) (a : ℕ) → a ≡ step_of s → stands_in 16 s ≡ true
 again s a e h = left_there s h ∙ ap (λ (t : List ℕ). (raws_in 16 t).rest) (sym (passed s a e))
 
 pub loop-step-smaller : goal.loop-step-smaller
-loop-step-smaller c = less c.loop-step.false.now c.step_of-step.result c.step_of-step.ensures.0 (sym c.stands.ensures ∙ c.loop-step-test.true)
+loop-step-smaller c = less c.loop-step.left.now c.step_of-step.result c.step_of-step.ensures.0 (sym c.stands.ensures ∙ c.loop-step-test.true)
 
 pub loop-step-preserved : goal.loop-step-preserved
-loop-step-preserved c = c.loop-step.invariant ∙ again c.loop-step.false.now c.step_of-step.result c.step_of-step.ensures.0 (sym c.stands.ensures ∙ c.loop-step-test.true)
+loop-step-preserved c = c.loop-step.invariant ∙ again c.loop-step.left.now c.step_of-step.result c.step_of-step.ensures.0 (sym c.stands.ensures ∙ c.loop-step-test.true)
 
 pub returns : goal.returns
 returns c =
-    ap (λ (t : List ℕ). not (eqb (length t) 0)) (sym (c.loop-step.invariant ∙ left-away c.loop-step.false.now (sym c.stands.ensures ∙ c.loop-step-test.false)))
+    ap (λ (t : List ℕ). not (eqb (length t) 0)) (sym (c.loop-step.invariant ∙ left-away c.loop-step.left.now (sym c.stands.ensures ∙ c.loop-step-test.false)))

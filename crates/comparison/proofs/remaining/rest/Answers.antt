@@ -10,4 +10,7 @@ pub returns : goal.returns
 unfolding rest_of
 returns c = let x = c.args.first in
     let e = c.rest_place-at.ensures.0 in
-    (part x.now c.rest_place-at.result ∙ ap (λ (n : ℕ). drop n x.now) e, (refl, ap (λ (n : ℕ). n + x.ref_ptr.1) e))
+    record {
+      which = part x.now c.rest_place-at.result ∙ ap (λ (n : ℕ). drop n x.now) e;
+      whose = (refl, ap (λ (n : ℕ). n + x.ref_ptr.1) e);
+    }

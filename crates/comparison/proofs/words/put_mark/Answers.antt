@@ -10,10 +10,10 @@ use Rattle.comparison.proofs.words.put_mark.Goals as goal
 pub returns-then-not-test : goal.returns-then-not-test
 returns-then-not-test c = let s = c.args in
     let p : Put = record { buffer = s.out.now; at = s.at } in
-    typed-none p ∙ ap (λ (b : Bool). typed p (mark_line s.n b s.code)) (sym (not-true s.test c.if-not-test.true))
+    typed-none p ∙ ap (λ (b : Bool). typed p (mark_line s.n b s.code)) (sym c.if-not-test.true)
 
 pub returns : goal.returns
 returns c = let s = c.args in
     let p : Put = record { buffer = s.out.now; at = s.at } in
     then p _ _ c.put_decimal-next.ensures c.put_code.ensures
-    ∙ ap (λ (b : Bool). typed p (mark_line s.n b s.code)) (sym (not-false s.test c.if-not-test.false))
+    ∙ ap (λ (b : Bool). typed p (mark_line s.n b s.code)) (sym c.if-not-test.false)
