@@ -132,16 +132,16 @@ open-story none e = no_way e refl
 open-story (some s) e = (s, refl)
 
 -- two open records with one discriminator are one record
-one_each : (same : Session → Session → Bool) → ((a b : Session) → same a b ≡ same b a) → (rs : List Session) (a b : Session) → once same rs ≡ true
+one_each : (same : Session → Session → Bool) → ((a b : Session) → same a b ≡ same b a) → (a b : Session) (rs : List Session) → once same rs ≡ true
     → Memᴰ a rs → Memᴰ b rs → same a b ≡ true → a ≡ b
 unfolding once
-one_each same back rs a b o (Memᴰ.head {x = x} {xs} e) (Memᴰ.head f) s = e ∙ sym f
-one_each same back rs a b o (Memᴰ.head {x = x} {xs} e) (Memᴰ.tail n) s =
+one_each same back a b rs o (Memᴰ.head {x = x} {xs} e) (Memᴰ.head f) s = e ∙ sym f
+one_each same back a b rs o (Memᴰ.head {x = x} {xs} e) (Memᴰ.tail n) s =
     no_way (any_at (same x) n (ap (λ (y : Session). same y b) (sym e) ∙ s)) (not-true _ (and_both (not (any (same x) xs)) (once same xs) o).0)
-one_each same back rs a b o (Memᴰ.tail {x = x} {xs} m) (Memᴰ.head f) s =
+one_each same back a b rs o (Memᴰ.tail {x = x} {xs} m) (Memᴰ.head f) s =
     no_way (any_at (same x) m (back x a ∙ ap (same a) (sym f) ∙ s)) (not-true _ (and_both (not (any (same x) xs)) (once same xs) o).0)
-one_each same back rs a b o (Memᴰ.tail {x = x} {xs} m) (Memᴰ.tail n) s =
-    one_each same back xs a b (and_both (not (any (same x) xs)) (once same xs) o).1 m n s
+one_each same back a b rs o (Memᴰ.tail {x = x} {xs} m) (Memᴰ.tail n) s =
+    one_each same back a b xs (and_both (not (any (same x) xs)) (once same xs) o).1 m n s
 
 -- so two open labels of one party with one discriminator are one label
 no_shared : (h : History) (t : Table) → InStep h t → (l m : ℕ) (s u : Story) → story l h ≡ some s → story m h ≡ some u
@@ -154,7 +154,7 @@ no_shared h t S l m s u p q party e =
     let same : a.0.settings.discriminator ≡ b.0.settings.discriminator =
     ap (λ (g : Settings). g.discriminator) a.2.settings ∙ e ∙ sym (ap (λ (g : Settings). g.discriminator) b.2.settings) in
     let one : a.0 ≡ b.0 =
-    one_each same_discriminator (λ v w. numbers-alike.back (own_discriminator v.settings) (own_discriminator w.settings)) (open_of t) a.0 b.0 S.ordered.discriminators x.0 y.0
+    one_each same_discriminator (λ v w. numbers-alike.back (own_discriminator v.settings) (own_discriminator w.settings)) a.0 b.0 (open_of t) S.ordered.discriminators x.0 y.0
     (eq-eqb (own_discriminator a.0.settings) (own_discriminator b.0.settings)
     ((same-own a.0.settings b.0.settings).1 (ap party_of x.1 ∙ party ∙ sym (ap party_of y.1), same))) in
     sym x.1 ∙ ap (λ (r : Session). r.settings.label) one ∙ y.1

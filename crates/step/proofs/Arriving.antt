@@ -15,7 +15,7 @@ use Rattle.rules.specs.Times.{late}
 use Rattle.rules.proofs.Bools.{split}
 use Rattle.session.specs.declared.Session.{Session}
 use Rattle.session.specs.Live.{is_fault, bfd_acted, fault_acted, with_live, with_fault, received_number, received_record}
-use Rattle.session.proofs.Live.{bfd-acts, fault-acts}
+use Rattle.session.proofs.LiveMessages.{bfd-acts, fault-acts}
 use Rattle.table.specs.Places.{opens, place_of}
 use Rattle.table.specs.Table.{in_order, find, absent, asked, act_answer, receive_answer, done, act_done, altered, receiving}
 use Rattle.step.specs.declared.Arrival.{Arrival}

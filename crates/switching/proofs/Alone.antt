@@ -36,17 +36,20 @@ holders-same p id a b x y =
     (eqb-true _ p j.party ∙ sym (eqb-true _ p k.party), j.id ∙ sym k.id)))
 
 -- so they are one
-pub holder-alone : (p id : ℕ) (rs : List Session) (r x : Session) → once same_group rs ≡ true → find_group p id rs ≡ some r → Memᴰ x rs → holds_group p id x ≡ true → x ≡ r
+alone-holder : (p id : ℕ) (r x : Session) (rs : List Session) → once same_group rs ≡ true → find_group p id rs ≡ some r → Memᴰ x rs → holds_group p id x ≡ true → x ≡ r
 unfolding find_group once
-holder-alone p id rs r x o f (Memᴰ.head {x = y} {xs = ys} e) q =
+alone-holder p id r x rs o f (Memᴰ.head {x = y} {xs = ys} e) q =
     let w : some y ≡ some r = simp (subst (λ (z : Session). holds_group p id z ≡ true) e q) at f in
     let same : y ≡ r = cc in
     e ∙ same
-holder-alone p id rs r x o f (Memᴰ.tail {x = y} {xs = ys} m) q =
+alone-holder p id r x rs o f (Memᴰ.tail {x = y} {xs = ys} m) q =
     let both = and_both (not (any (same_group y) ys)) (once same_group ys) o in
     split (holds_group p id y)
     (λ h. no_way (any_at (same_group y) m (holders-same p id y x h q)) (not-true _ both.0))
-    (λ h. holder-alone p id ys r x both.1 (simp h at f) m q)
+    (λ h. alone-holder p id r x ys both.1 (simp h at f) m q)
+
+pub holder-alone : (p id : ℕ) (rs : List Session) (r x : Session) → once same_group rs ≡ true → find_group p id rs ≡ some r → Memᴰ x rs → holds_group p id x ≡ true → x ≡ r
+holder-alone p id rs r x = alone-holder p id r x rs
 
 -- what the groups of the labels tell of who holds it
 label-holds : (p id u : ℕ) (rs : List Session) (m : ℕ) (o : Option Session) → find m rs ≡ o → is_of p m && has_id_in id (group_in u o) ≡ true
