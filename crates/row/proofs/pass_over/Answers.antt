@@ -1,0 +1,20 @@
+-- The loop's turns are those of `pass_over`, by `Passed.antt`.
+use mathlib.Core.Path.{◌≡◌, sym, ◌∙◌}
+use Prim.Native.Nat.{ℕ, ◌<◌}
+use native.Mathlib.Omega.{arith}
+use lib.ListN.{length}
+use Rattle.row.proofs.Searched.{within}
+use Rattle.row.proofs.Passed.{goes_one, at-end}
+use Rattle.row.proofs.pass_over.Goals as goal
+
+pub loop-r-preserved : goal.loop-r-preserved
+loop-r-preserved c =
+    let more = sym c.more.ensures ∙ c.loop-r-test.true in
+    let so : c.loop-r.i < length c.args.row.now = within c.loop-r.s.rest c.loop-r.i _ more in
+    record {
+      inside = omega (arith, so);
+      so_far = goes_one c.args.row.now c.loop-r.i c.loop-r.s c.loop-r.pairs _ more c.take_in-s.result c.take_in-s.ensures.0 c.take_in-s.new.pairs c.take_in-s.ensures.1 ∙ c.loop-r.invariant.so_far;
+    }
+
+pub returns : goal.returns
+returns c = at-end c.args.row.now c.loop-r.i c.loop-r.s c.loop-r.pairs (sym c.more.ensures ∙ c.loop-r-test.false) ∙ c.loop-r.invariant.so_far
