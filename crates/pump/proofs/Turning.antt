@@ -5,7 +5,7 @@ use native.Mathlib.Omega.{arith}
 use mathlib.Core.Path.{◌≡◌, refl, sym, ap, subst, ◌∙◌}
 use mathlib.Core.Bool.{Bool, true, false, not, cond}
 use mathlib.Core.List.{List, []}
-use lib.Dec.{T as Holds, ltb}
+use lib.Dec.{ltb}
 use lib.ListN.{length, take}
 use lib.Seq.{sets}
 use borrow.Author.Tests.{lt-ltb, le-ltb, ltb-true, ltb-false, eq-eqb, ne_eqb}
@@ -69,8 +69,7 @@ module _ (p : Pump) (buf out : List ℕ) (n : ℕ) (w : Within p.have buf n) whe
   pub none-fed : is_whole (next_in (take n buf)) ≡ false → unfed_to p buf out ≡ fed_on p buf out
   none-fed e =
       let x : Flow = record { row = fresh.row; fed = fresh.fed; out = out } in
-      let no : Holds (not (more_of fresh.fed (take n buf) (length out))) = subst (λ (t : Bool). Holds (not t)) (sym (none-stands e)) tt in
-      took-none fresh fresh out refl (sym (stops (take n buf) (length (take n buf)) x no) ∙ begins fresh.row fresh.fed (take n buf) out) (omega (arith, none-used))
+      took-none fresh fresh out refl (sym (stops (take n buf) (length (take n buf)) x (none-stands e)) ∙ begins fresh.row fresh.fed (take n buf) out) (omega (arith, none-used))
 
   -- how the text ends
   pub ends : is_over p.closed (next_in (take n buf)) ≡ true → (q : Pump) (out' : List ℕ)

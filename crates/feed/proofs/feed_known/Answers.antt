@@ -54,8 +54,7 @@ loop-row-smaller c = let l = c.loop-row in
 pub loop-row-preserved : goal.loop-row-preserved
 loop-row-preserved c = let a = c.args in
     let l = c.loop-row in
-    let e = sym c.more.ensures ∙ c.loop-row-test.true in
-    (
+    let e = sym c.more.ensures ∙ c.loop-row-test.true in (
       l.invariant.0 - 1,
       goes_one a.sound a.input.now (flow a.row.now a.from a.out.now) l.invariant.0 (flow l.row l.f l.out) (flow c.turn-next.new.row c.turn-next.result c.turn-next.new.out) l.invariant.1 e c.turn-next.ensures,
     )

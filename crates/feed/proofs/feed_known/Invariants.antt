@@ -12,7 +12,7 @@ abbrev pub invariant-loop-row : goal.invariant-loop-row
 invariant-loop-row l =
     (n : ℕ) × ((length l.input ≤ l.f.used + n)
     × (l.sound ≡ in_order (table_of l.fn.row l.fn.from.head)
-        → (l.sound ≡ in_order (table_of l.row l.f.head)) × (go_on l.input n (flow l.row l.f l.out) ≡ feed_of l.fn.row l.fn.from l.input l.fn.out)))
+    → (l.sound ≡ in_order (table_of l.row l.f.head)) × (go_on l.input n (flow l.row l.f l.out) ≡ feed_of l.fn.row l.fn.from l.input l.fn.out)))
 
 abbrev pub decreases-loop-row : goal.decreases-loop-row
 decreases-loop-row l = length l.input - l.f.used

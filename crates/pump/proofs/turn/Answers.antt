@@ -1,6 +1,4 @@
 use mathlib.Core.Path.{sym, ◌∙◌}
-use borrow.Author.Rules.{rules}
-use borrow.Author.Tests.{not-true, not-false}
 use Rattle.pump.proofs.Turning.{writes-first, no_more, turn-rests, turn-feeds}
 use Rattle.pump.proofs.turn.Goals as goal
 
@@ -15,10 +13,9 @@ returns-then-p-2 c =
 pub returns-then-not-is_ready : goal.returns-then-not-is_ready
 returns-then-not-is_ready c =
     let s = c.args in
-    turn-rests s.p s.buf.now s.out.now c.if-p.false c.if-p-2.false _ c.begin-q.ensures (sym c.is_ready.ensures ∙ not-true c.is_ready.result c.if-not-is_ready.true)
+    turn-rests s.p s.buf.now s.out.now c.if-p.false c.if-p-2.false _ c.begin-q.ensures (sym c.is_ready.ensures ∙ c.if-not-is_ready.true)
 
 pub returns : goal.returns
 returns c =
-    let o = b in
-    let s = o.args in
-    turn-feeds s.p s.buf.now s.out.now o.if1.false o.if2.false _ c.begin-q.ensures (sym c.is_ready.ensures ∙ not-false c.is_ready.result c.if-not-is_ready.false) _ c.feed_on.ensures
+    let s = c.args in
+    turn-feeds s.p s.buf.now s.out.now c.if-p.false c.if-p-2.false _ c.begin-q.ensures (sym c.is_ready.ensures ∙ c.if-not-is_ready.false) _ c.feed_on.ensures

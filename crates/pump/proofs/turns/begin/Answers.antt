@@ -1,6 +1,4 @@
 use mathlib.Core.Path.{sym, ◌∙◌}
-use borrow.Author.Rules.{rules}
-use borrow.Author.Tests.{not-true, not-false}
 use Rattle.pump.proofs.Turning.{already, not-begun, waits, wrong, right}
 use Rattle.pump.proofs.turns.begin.Goals as goal
 
@@ -15,17 +13,15 @@ returns-then-is_waiting c =
 
 pub returns-then-not-header_fits : goal.returns-then-not-header_fits
 returns-then-not-header_fits c =
-    let b = w in
-    let s = b.args in
+    let s = c.args in
     wrong s.p s.buf.now s.out.now c.within-n.result c.within-n.ensures (sym c.is_waiting.ensures ∙ c.if-is_waiting.false)
-    (sym c.header_fits.ensures ∙ not-true c.header_fits.result c.if-not-header_fits.true) c.finish.result c.finish.new.1.0 c.finish.ensures
-    ∙ not-begun s.p s.buf.now s.out.now b.if1.false
+    (sym c.header_fits.ensures ∙ c.if-not-header_fits.true) c.finish.result c.finish.new.out c.finish.ensures
+    ∙ not-begun s.p s.buf.now s.out.now c.if-p.false
 
 pub returns : goal.returns
 returns c =
-    let b = w in
-    let s = b.args in
+    let s = c.args in
     right s.p s.buf.now s.out.now c.within-n.result c.within-n.ensures (sym c.is_waiting.ensures ∙ c.if-is_waiting.false)
-    (sym c.header_fits.ensures ∙ not-false c.header_fits.result c.if-not-header_fits.false) c.shift-have.result c.shift-have.new.0 c.shift-have.ensures
+    (sym c.header_fits.ensures ∙ c.if-not-header_fits.false) c.shift-have.result c.shift-have.new.buf c.shift-have.ensures
     c.behind_header.result c.behind_header.ensures
-    ∙ not-begun s.p s.buf.now s.out.now b.if1.false
+    ∙ not-begun s.p s.buf.now s.out.now c.if-p.false

@@ -1,18 +1,16 @@
 use mathlib.Core.Path.{◌∙◌}
-use borrow.Author.Rules.{rules}
 use Rattle.pump.proofs.Turning.{lines, took-none}
 use Rattle.pump.proofs.turns.feed_some.Goals as goal
 
 pub returns-then-used-gt0 : goal.returns-then-used-gt0
 returns-then-used-gt0 c =
     let s = c.args in
-    lines s.p s.buf.now s.out.now c.within-n.result c.within-n.ensures c.at_front.result c.feed-table.result c.feed-table.new.1.1.0 c.at_front.ensures c.feed-table.ensures
-    c.if-used-gt0.true c.shift-have.result c.shift-have.new.0 c.shift-have.ensures
+    lines s.p s.buf.now s.out.now c.within-n.result c.within-n.ensures c.at_front.result c.feed-table.result c.feed-table.new.out c.at_front.ensures c.feed-table.ensures
+    c.if-used-gt0.true c.shift-have.result c.shift-have.new.buf c.shift-have.ensures
 
 pub returns : goal.returns
 returns c =
-    let w = a in
-    let s = w.args in
+    let s = c.args in
     c.unfed.ensures
-    ∙ took-none s.p s.buf.now s.out.now w.within.result w.within.ensures c.at_front.result c.feed-table.result c.feed-table.new.1.1.0 c.at_front.ensures c.feed-table.ensures
+    ∙ took-none s.p s.buf.now s.out.now c.within-n.result c.within-n.ensures c.at_front.result c.feed-table.result c.feed-table.new.out c.at_front.ensures c.feed-table.ensures
     c.if-used-gt0.false

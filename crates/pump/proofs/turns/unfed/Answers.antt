@@ -1,5 +1,4 @@
 use mathlib.Core.Path.{sym, ap, ◌∙◌}
-use borrow.Author.Rules.{rules}
 use Rattle.pump.specs.Pumping.{is_over}
 use Rattle.pump.proofs.Turning.{ends, stays}
 use Rattle.pump.proofs.turns.unfed.Goals as goal
@@ -8,7 +7,7 @@ pub returns-then-is_over : goal.returns-then-is_over
 returns-then-is_over c =
     let s = c.args in
     ends s.p s.buf.now s.out.now c.within-n.result c.within-n.ensures
-    (sym (c.is_over.ensures ∙ ap (is_over s.p.closed) c.next_record.ensures) ∙ c.if-is_over.true) c.end.result c.end.new.1.0 c.end.ensures
+    (sym (c.is_over.ensures ∙ ap (is_over s.p.closed) c.next_record.ensures) ∙ c.if-is_over.true) c.end.result c.end.new.out c.end.ensures
 
 pub returns : goal.returns
 returns c =
