@@ -1,5 +1,4 @@
-pub mod PacePlains
 pub mod Turns
 pub mod Ways
+pub mod Going
 pub mod Paces
-pub mod PacedRow

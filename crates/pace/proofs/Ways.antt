@@ -1,4 +1,4 @@
--- What a paced record is, of both kinds of record: those that bring a message and those that do not. The walks of `NotedCall.antt` and `OneTurn.antt` take these laws.
+-- What a paced record is, of both kinds of record: those that bring a message and those that do not.
 -- Assumes nothing.
 use Prim.Native.Nat.{ℕ, ◌<◌, ◌^◌}
 use mathlib.Core.Path.{◌≡◌, refl, sym, ap, subst, ◌∙◌}
@@ -21,13 +21,6 @@ use Rattle.pace.specs.declared.Pacing.{Pacing}
 use Rattle.pace.specs.declared.calls.Paced.{Paced}
 use Rattle.pace.specs.Pacing.{more_of}
 use Rattle.pace.specs.Calling.{set_sought, note_of, forgets_of, plain_note, note_for, told_by, Paces, kept_by, Turns}
-use Rattle.walks.proofs.Plain.{Plain, bool_p, u64_p, u32_p}
-use Rattle.row.proofs.Plains.{session_p, outcome_p}
-use Rattle.feed.proofs.FedPlain.{fed_p}
-use Rattle.feed.proofs.RecordPlain.{record_p}
-use Rattle.walks.proofs.NotedCall as call
-use Rattle.walks.proofs.OneTurn as one
-use Rattle.pace.proofs.PacePlains.{pace_p, pacing_p, paced_p}
 use Rattle.pace.proofs.Turns.{is-turn, turn-takes}
 
 -- whether the record is of the kind that is meant
@@ -53,10 +46,11 @@ note-is true s x r m e = refl
 note-is false s x r m e = plain-is s x r m e
 
 module _ (b : Bool) where
-  pub noted : (ys : List Session) (sound : Bool) (x : Pacing) (r : Record) (m : List ℕ) → length ys < 2 ^ 64 → length m < 2 ^ 64
+  -- the call that the parts of the function make
+  pub noted : (ys : List Session) (sound : Bool) (x : Pacing) (r : Record) (m : List ℕ)
       → (n : ℕ) → n ≡ set_sought x r → (l : ℕ) → l ≡ x.label → (d : ℕ) → d ≡ 0 → (p : ℕ) → p ≡ first_hit l d n ys → (s : Session) → s ≡ get_or ys p absent
       → (k : Pace) → k ≡ note_for b s x r m → (f : Fed) → f ≡ x.fed → (o : Outcome) (zs : List Session) → (Meant b r → Calls ys f r m sound o zs) → (t : Paced) → t ≡ told_by k o → Meant b r → Paces ys x r m sound t zs
-  noted ys sound x r m long short n en l el d ed p ep s es k ek f ef o zs called t et meant =
+  noted ys sound x r m n en l el d ed p ep s es k ek f ef o zs called t et meant =
       let at : p ≡ first_hit x.label 0 (set_sought x r) ys =
       ep ∙ ap (λ (i : ℕ). first_hit i d n ys) el ∙ ap (λ (i : ℕ). first_hit x.label i n ys) ed ∙ ap (λ (i : ℕ). first_hit x.label 0 i ys) en in (
         o,
@@ -64,33 +58,10 @@ module _ (b : Bool) where
         et ∙ ap (λ (i : Pace). told_by i o) (ek ∙ note-is b s x r m meant ∙ ap (λ (i : Session). note_of i x r m) (es ∙ ap (λ (i : ℕ). get_or ys i absent) at)),
       )
 
-  abbrev pub calls : call.NotedCall session_p bool_p pacing_p record_p u64_p u32_p u64_p pace_p fed_p outcome_p paced_p
-  calls = record {
-    sought = set_sought;
-    label = λ x. x.label;
-    other = λ x. 0;
-    find = λ ys n l d. first_hit l d n ys;
-    read = λ ys p. get_or ys p absent;
-    note = note_for b;
-    fed = λ x. x.fed;
-    Did = λ ys sound f r m o zs. Meant b r → Calls ys f r m sound o zs;
-    told = told_by;
-    Said = λ ys sound x r m t zs. Meant b r → Paces ys x r m sound t zs;
-    says = noted;
-  }
-
-  pub turned : (ys : List Session) (kept : List ℕ) (sound : Bool) (x : Pacing) (m : List ℕ) → length ys < 2 ^ 64 → length kept < 2 ^ 64 → length m < 2 ^ 64 → (r : Record) → r ≡ record_from (drop x.fed.used m)
-      → (t : Paced) (zs : List Session) → (Meant b r → Paces ys x r m sound t zs) → length zs ≡ length ys → (y : Pacing) (ks : List ℕ) → y ≡ kept_by x m r t → message_next m x.fed ≡ b → Turns ys sound x m y zs
-  turned ys kept sound x m long _ short r er t zs paced _ y ks e brings more =
+  -- one turn, where the record that stands next is of the kind that is meant
+  pub turned : (ys : List Session) (sound : Bool) (x : Pacing) (m : List ℕ) → length ys < 2 ^ 64 → length m < 2 ^ 64 → (r : Record) → r ≡ record_from (drop x.fed.used m)
+      → (t : Paced) (zs : List Session) → (Meant b r → Paces ys x r m sound t zs) → (y : Pacing) → y ≡ kept_by x m r t → message_next m x.fed ≡ b → Turns ys sound x m y zs
+  turned ys sound x m long short r er t zs paced y e brings more =
       let meant : Meant b r = ap (λ (q : Record). eqb q.kind 5) er ∙ brings in
       let h : Holds (more_of x m) = subst (λ (b : Bool). Holds b) (sym more) tt in
       (turn-takes m x r er t y e h, λ mark. is-turn m ys x sound r er t zs (paced meant) y e mark h short long)
-
-  abbrev pub turns : one.Turn session_p bool_p pacing_p record_p paced_p
-  turns = record {
-    next = λ m x. record_from (drop x.fed.used m);
-    Did = λ ys sound x r m t zs. Meant b r → Paces ys x r m sound t zs;
-    Wrote = λ kept x m r t y ks. y ≡ kept_by x m r t;
-    Said = λ ys kept sound x m y zs ks. message_next m x.fed ≡ b → Turns ys sound x m y zs;
-    says = turned;
-  }
