@@ -1,4 +1,2 @@
 pub mod GroupPlains
 pub mod GroupParts
-pub mod SearchBy
-pub mod SeenOver
