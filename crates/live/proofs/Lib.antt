@@ -1,4 +1,3 @@
-pub mod Plains
 pub mod LiveTable
 pub mod LiveMarks
 pub mod Live
