@@ -11,7 +11,7 @@ use Rattle.indexing.proofs.numbers.fill_numbers.Given as goal
 
 abbrev pub invariant-loop-at : goal.invariant-loop-at
 invariant-loop-at l =
-    (notes_of (l.x.count - l.x.at) l.log (record { filling = l.x; l.clocks = l.clocks; l.places = l.places }) ≡ note_all l.initial.clocks l.initial.places l.initial.x l.log)
+    (notes_of (l.x.count - l.x.at) l.log (record { filling = l.x; clocks = l.clocks; places = l.places }) ≡ note_all l.initial.clocks l.initial.places l.initial.x l.log)
     × ((length l.clocks ≡ length l.initial.clocks) × (length l.places ≡ length l.initial.places))
 
 abbrev pub decreases-loop-at : goal.decreases-loop-at
