@@ -1,26 +1,26 @@
 -- The call of one record is the table's step, and its line tells what the table says: by kinds, with no model.
 -- Assumes nothing.
-use Prim.Native.Nat.{ℕ, zero, suc, ◌+◌, ◌-◌, ◌^◌, ◌≤◌, ◌<◌}
+use Prim.Native.Nat.{ℕ, ◌+◌, ◌^◌, ◌≤◌, ◌<◌}
 use native.Mathlib.Omega.{arith}
 use mathlib.Core.Path.{◌≡◌, refl, sym, ap, subst, ◌∙◌}
-use mathlib.Core.Bool.{Bool, true, false, cond, not}
+use mathlib.Core.Bool.{Bool, true, false}
 use mathlib.Core.List.{List}
-use lib.Dec.{T as Holds, eqb, ltb}
-use lib.ListN.{length, get_or, set, take, drop, replicate, length-drop}
+use lib.Dec.{eqb, ltb}
+use lib.ListN.{length, get_or}
 use lib.Seq.{drop-drop}
-use borrow.Author.Tests.{eqb-true, eqb-false, lt-ltb, le-ltb, ltb-false}
+use borrow.Author.Tests.{eqb-true, lt-ltb, ltb-false}
 use Rattle.octets.proofs.Chain.{need-passed, bar-passed}
 use Rattle.cv.proofs.Forms.{length-within}
-use Rattle.rules.specs.Calls.{Act, Close, Lock, Unlock, Receive, ReportOn, WriteCc, WriteCv, Call, Tick, Open, On, Said, writes, number_only}
-use Rattle.rules.proofs.Bools.{split, no_way}
+use Rattle.rules.specs.Calls.{Receive, Call, Tick, Open, On}
+use Rattle.rules.proofs.Bools.{split}
 use Rattle.rules.proofs.Fitting.{settings-say}
 use Rattle.session.specs.declared.Session.{Session}
-use Rattle.session.specs.Queries.{cc_octets_at, cv_size_of, cv_whole_at}
+use Rattle.session.specs.Queries.{cv_size_of, cv_whole_at}
 use Rattle.session.proofs.Written.{cv-room}
 use Rattle.table.specs.declared.Head.{Head}
 use Rattle.table.specs.Places.{place_of}
 use Rattle.table.specs.Hints.{Placed, placed_by}
-use Rattle.table.specs.Table.{Table, in_order, absent, answer, next}
+use Rattle.table.specs.Table.{in_order, absent}
 use Rattle.table.proofs.Found.{known-place}
 use Rattle.scan.specs.declared.Summary.{Summary}
 use Rattle.scan.specs.Passing.{summary_of}
@@ -33,14 +33,14 @@ use Rattle.step.specs.Requests.{is_request, request_on, request_of}
 use Rattle.step.specs.Stepping.{table_of, is_place, answer_of, Obeyed, step_of, told_by, opening_target, opening_of, obey_at, open_at}
 use Rattle.walks.specs.AtPlace.{at_place}
 use Rattle.step.specs.Arriving.{message_in, receive_at, met_at}
-use Rattle.step.specs.Saying.{said_of, Steps}
+use Rattle.step.specs.Saying.{Steps}
 use Rattle.step.proofs.TableStep.{cc-length, tick-steps, act-steps, open-steps}
 use Rattle.step.proofs.Arriving.{receive-steps}
 use Rattle.session.specs.Live.{is_fault}
 use Rattle.capture.specs.declared.Record.{Record}
-use Rattle.capture.specs.Records.{body_in, settings_in, act_of, call_of}
+use Rattle.capture.specs.Records.{settings_in, act_of, call_of}
 use Rattle.feed.specs.declared.Fed.{Fed}
-use Rattle.feed.specs.Calling.{body_at, opening_in, seen_with, sought_in, seen_at, body_from, arrival_in, request_in, Whole, Calls}
+use Rattle.feed.specs.Calling.{body_at, opening_in, seen_with, sought_in, seen_at, arrival_in, request_in, Whole, Calls}
 
 -- ---- what can be told has its length
 told-whole : (q : Request) (r : Session) (clock : ℕ) → (length (told_by q r clock).cc ≡ 28) × (length (told_by q r clock).cv.octets ≡ 78)

@@ -1,6 +1,6 @@
 -- The feed's loop with no model: what a test that there is more says, one turn of the definition, and that 26 is asked once.
 -- Assumes nothing.
-use mathlib.Core.Path.{◌≡◌, refl, sym, ap, subst, ◌∙◌}
+use mathlib.Core.Path.{◌≡◌, refl, sym, ap, ◌∙◌}
 use mathlib.Core.Bool.{Bool, true, false, not, cond, ◌&&◌}
 use Prim.Native.Nat.{ℕ, zero, suc, ◌^◌, ◌<◌, ◌≤◌, ◌+◌, ◌-◌}
 use mathlib.Core.List.{List}
@@ -12,18 +12,18 @@ use borrow.Author.Tests.{eqb-true, eqb-false, ne_eqb, le-ltb, leb-true, leb-fals
 use Rattle.octets.specs.Writing.{writing}
 use Rattle.octets.proofs.Writing.{refused}
 use Rattle.message.specs.Message.{message_place}
-use Rattle.rules.specs.Calls.{Act, Close, Lock, Unlock, Receive, ReportOn, WriteCc, WriteCv, Call, Tick, Open, On, Said, is_accepted, reporting, writes}
+use Rattle.rules.specs.Calls.{Close, Lock, Unlock, Receive, ReportOn, WriteCc, WriteCv, Call, Tick, Open, On, Said, is_accepted, reporting, writes}
 use Rattle.rules.proofs.Bools.{split, no_way}
 use Rattle.session.specs.declared.Session.{Session}
 use Rattle.table.specs.declared.Head.{Head}
 use Rattle.table.specs.Table.{Table, in_order, answer, next}
 use Rattle.table.proofs.Order.{order_same}
 use Rattle.step.specs.declared.Outcome.{Outcome}
-use Rattle.step.specs.Stepping.{table_of, Obeyed}
+use Rattle.step.specs.Stepping.{table_of}
 use Rattle.step.specs.Saying.{cv_told, said_of, Steps}
 use Rattle.capture.specs.declared.Record.{Record}
 use Rattle.capture.specs.declared.Next.TheVariants.{Whole, Broken, Short, End}
-use Rattle.capture.specs.Records.{record_in, record_from, body_in, settings_in, act_of, call_of, call_in, next_in, next_of, is_broken, is_whole, size_of}
+use Rattle.capture.specs.Records.{record_in, record_from, body_in, settings_in, call_of, call_in, next_in, next_of, is_broken, is_whole, size_of}
 use Rattle.capture.specs.Lines.{line, numbered, is_readers, plain_line, placed_line, report_line, octets_line}
 use Rattle.capture.specs.Typing.{Put, typed}
 use Rattle.capture.proofs.LineSaid.{is_plain, has_place, line_refused, line_plain, line-placed, line-report, line-cc, line-cv, written}

@@ -1,11 +1,10 @@
 use Prim.Native.Nat.{ℕ, suc, ◌-◌, ◌<◌, ◌≤◌, ◌+◌}
 use native.Mathlib.Omega.{arith}
 use mathlib.Core.Path.{◌≡◌, sym, ap, subst, ◌∙◌}
-use mathlib.Core.Bool.{Bool, true, not}
+use mathlib.Core.Bool.{Bool, true}
 use mathlib.Core.List.{List}
 use lib.Dec.{T as Holds}
 use lib.ListN.{length}
-use Rattle.session.specs.declared.Session.{Session}
 use Rattle.table.specs.Table.{in_order}
 use Rattle.step.specs.Stepping.{table_of}
 use Rattle.feed.specs.declared.Fed.{Fed}

@@ -1,7 +1,6 @@
 use mathlib.Core.Path.{◌≡◌, ap, ◌∙◌}
 use Rattle.table.specs.declared.Head.{Head}
 use Rattle.table.specs.Table.{in_order}
-use Rattle.scan.specs.declared.Target.{Target}
 use Rattle.scan.specs.declared.Summary.{Summary}
 use Rattle.scan.specs.Passing.{summary_of}
 use Rattle.scan.proofs.Scanned.{summary-sound}

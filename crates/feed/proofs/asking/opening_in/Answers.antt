@@ -1,4 +1,3 @@
-use borrow.Author.Rules.{rules}
 use Rattle.feed.proofs.asking.opening_in.Goals as goal
 
 pub returns : goal.returns

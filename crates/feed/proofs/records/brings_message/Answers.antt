@@ -1,6 +1,5 @@
 use mathlib.Core.Path.{ap}
 use lib.Dec.{eqb}
-use borrow.Author.Rules.{rules}
 use Rattle.capture.specs.declared.Record.{Record}
 use Rattle.feed.proofs.records.brings_message.Goals as goal
 

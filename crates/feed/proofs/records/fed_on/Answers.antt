@@ -1,4 +1,3 @@
-use borrow.Author.Rules.{rules}
 use Rattle.feed.proofs.records.fed_on.Goals as goal
 
 pub returns : goal.returns

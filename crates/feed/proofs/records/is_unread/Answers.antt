@@ -1,4 +1,3 @@
-use borrow.Author.Rules.{rules}
 use Rattle.feed.proofs.records.is_unread.Goals as goal
 
 pub returns : goal.returns

@@ -1,4 +1,3 @@
-use borrow.Author.Rules.{rules}
 use Rattle.feed.specs.Feeding.{more_of}
 use Rattle.feed.proofs.records.more.Goals as goal
 

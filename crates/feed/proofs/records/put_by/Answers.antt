@@ -1,4 +1,3 @@
-use borrow.Author.Rules.{rules}
 use borrow.Author.Tests.{eq-eqb, ne_eqb, lt-leb, le-leb}
 use Rattle.feed.specs.Calling.{line_by}
 use Rattle.feed.proofs.records.put_by.Goals as goal

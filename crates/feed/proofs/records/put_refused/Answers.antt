@@ -1,4 +1,3 @@
-use borrow.Author.Rules.{rules}
 use mathlib.Core.Path.{◌∙◌}
 use Rattle.feed.specs.Calling.{refused_line}
 use Rattle.feed.proofs.records.put_refused.Goals as goal
