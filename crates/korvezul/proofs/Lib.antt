@@ -2,14 +2,6 @@ pub mod OneStep
 pub mod Promised
 pub mod Fold
 pub mod WhyRun
-pub mod LentRow
-pub mod CallPlains
-pub mod ThinEnd
-pub mod ThinCall
-pub mod ThinAsk
-pub mod ThinWrite
-pub mod CommandPlains
 pub mod OneCommand
-pub mod GroupRow
 pub mod Places
 pub mod TwoRuns

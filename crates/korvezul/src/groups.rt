@@ -122,8 +122,7 @@ fn group_answer(o: GroupOutcome, x: Outcome) -> GroupAnswer
 }
 
 // A group for a service PW and its DNI-PW, two open sessions of the party.
-#[unsafe(no_mangle)]
-pub extern "C" fn korvezul_set_group(
+pub fn korvezul_set_group(
     row: &mut [Session],
     head: &mut Head,
     group: GroupFor,
@@ -137,8 +136,7 @@ pub extern "C" fn korvezul_set_group(
 }
 
 // Its AC becomes active or standby.
-#[unsafe(no_mangle)]
-pub extern "C" fn korvezul_set_ac(
+pub fn korvezul_set_ac(
     row: &mut [Session],
     head: &mut Head,
     ac: AcOf,
@@ -152,8 +150,7 @@ pub extern "C" fn korvezul_set_ac(
 }
 
 // The operator's return to the working PW.
-#[unsafe(no_mangle)]
-pub extern "C" fn korvezul_return_group(
+pub fn korvezul_return_group(
     row: &mut [Session],
     head: &mut Head,
     group: GroupName,
@@ -167,8 +164,7 @@ pub extern "C" fn korvezul_return_group(
 }
 
 // PW, AC and forwarding of a group at the clock. Nothing changes.
-#[unsafe(no_mangle)]
-pub extern "C" fn korvezul_ask_group(
+pub fn korvezul_ask_group(
     row: &mut [Session],
     head: &mut Head,
     group: GroupName,

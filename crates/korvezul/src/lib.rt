@@ -5,13 +5,13 @@
 #![tactic(auto)]
 
 mod answers;
-mod groups;
-mod logs;
-mod messages;
-mod provisioning;
+pub mod groups;
+pub mod logs;
+pub mod messages;
+pub mod provisioning;
 mod requests;
-mod version;
-mod why;
+pub mod version;
+pub mod why;
 
 ghost use Rattle.std.specs.Prelude.{◌≡◌};
 ghost use Rattle.rules.specs.Calls.{Tick, Open, On, Close, Lock, Unlock, Receive, ReportOn, WriteCc, WriteCv, number_only, writes};
@@ -65,8 +65,7 @@ pub struct Begun {
 
 // Makes a row of 64 records an empty table at clock 0. The records stay as they are, and none of
 // them is looked at.
-#[unsafe(no_mangle)]
-pub extern "C" fn korvezul_empty(row: &[Session], head: &mut Head) -> u32
+pub fn korvezul_empty(row: &[Session], head: &mut Head) -> u32
     ensures { record { number = result; table = table_of row.now head.new } ≡ emptying row.now head.old }
 {
     let b = first_table(row.len(), *head);
@@ -96,8 +95,7 @@ fn open_lent(row: &mut [Session], head: &mut Head, g: Opening) -> Outcome
 }
 
 // The clock moves on.
-#[unsafe(no_mangle)]
-pub extern "C" fn korvezul_tick(row: &mut [Session], head: &mut Head, reading: u64) -> u32
+pub fn korvezul_tick(row: &mut [Session], head: &mut Head, reading: u64) -> u32
     ensures { record { said = number_only (Tick reading) result; table = table_of row.new head.new } ≡ called (table_of row.old head.old) (Tick reading) }
 {
     let q = tick_request(reading);
@@ -106,8 +104,7 @@ pub extern "C" fn korvezul_tick(row: &mut [Session], head: &mut Head, reading: u
 }
 
 // A new session, in the lowest free place.
-#[unsafe(no_mangle)]
-pub extern "C" fn korvezul_open(
+pub fn korvezul_open(
     row: &mut [Session],
     head: &mut Head,
     opening: OpeningFor,
@@ -121,8 +118,7 @@ pub extern "C" fn korvezul_open(
 }
 
 // The session of a label is given up.
-#[unsafe(no_mangle)]
-pub extern "C" fn korvezul_close(
+pub fn korvezul_close(
     row: &mut [Session],
     head: &mut Head,
     circuit: Circuit,
@@ -135,8 +131,7 @@ pub extern "C" fn korvezul_close(
     number(o)
 }
 
-#[unsafe(no_mangle)]
-pub extern "C" fn korvezul_lock(
+pub fn korvezul_lock(
     row: &mut [Session],
     head: &mut Head,
     circuit: Circuit,
@@ -149,8 +144,7 @@ pub extern "C" fn korvezul_lock(
     number(o)
 }
 
-#[unsafe(no_mangle)]
-pub extern "C" fn korvezul_unlock(
+pub fn korvezul_unlock(
     row: &mut [Session],
     head: &mut Head,
     circuit: Circuit,
@@ -181,8 +175,7 @@ fn receive_lent(
 }
 
 // A message of any bytes, received on a label: a DHC message is for a group, any other for a session.
-#[unsafe(no_mangle)]
-pub extern "C" fn korvezul_receive(
+pub fn korvezul_receive(
     row: &mut [Session],
     head: &mut Head,
     circuit: Circuit,
@@ -198,8 +191,7 @@ pub extern "C" fn korvezul_receive(
 }
 
 // The report on a label, at the clock.
-#[unsafe(no_mangle)]
-pub extern "C" fn korvezul_report(
+pub fn korvezul_report(
     row: &mut [Session],
     head: &mut Head,
     circuit: Circuit,
@@ -212,8 +204,7 @@ pub extern "C" fn korvezul_report(
 }
 
 // The CC of a label, at the clock, into the front of a lent buffer.
-#[unsafe(no_mangle)]
-pub extern "C" fn korvezul_write_cc(
+pub fn korvezul_write_cc(
     row: &mut [Session],
     head: &mut Head,
     circuit: Circuit,
@@ -227,8 +218,7 @@ pub extern "C" fn korvezul_write_cc(
 }
 
 // The CV of a label, at the clock, into the front of a lent buffer.
-#[unsafe(no_mangle)]
-pub extern "C" fn korvezul_write_cv(
+pub fn korvezul_write_cv(
     row: &mut [Session],
     head: &mut Head,
     circuit: Circuit,

@@ -7,8 +7,7 @@ use logging::Logged;
 use rules::Settings;
 
 // The eight octets before the first record: 13 for a shorter buffer, and then no byte changes.
-#[unsafe(no_mangle)]
-pub extern "C" fn korvezul_log_header(buffer: &mut [u8]) -> u32
+pub fn korvezul_log_header(buffer: &mut [u8]) -> u32
     ensures { record { answer = result; buffer = buffer.new } ≡ writing 0 header_octets buffer.old }
 {
     logging::write_header(buffer)
@@ -16,8 +15,7 @@ pub extern "C" fn korvezul_log_header(buffer: &mut [u8]) -> u32
 
 // An open, 53 octets: 10 for settings that a record cannot hold, then 13 for the buffer, and then no
 // byte changes.
-#[unsafe(no_mangle)]
-pub extern "C" fn korvezul_log_open(
+pub fn korvezul_log_open(
     buffer: &mut [u8],
     settings: Settings,
     reading: u64,
@@ -29,8 +27,7 @@ pub extern "C" fn korvezul_log_open(
 }
 
 // Any other call, 18 octets and those of a message: 10 for what is no such call, then 13.
-#[unsafe(no_mangle)]
-pub extern "C" fn korvezul_log_call(buffer: &mut [u8], what: Logged, message: &[u8]) -> u32
+pub fn korvezul_log_call(buffer: &mut [u8], what: Logged, message: &[u8]) -> u32
     ensures { record { answer = result; buffer = buffer.new } ≡ writing (call_refusal what message.now) (call_octets what message.now) buffer.old }
 {
     logging::write_call(buffer, what, message)

@@ -19,48 +19,42 @@ use cv::MepId;
 use fields::{CcRead, CvRead, FaultFields, FaultRead, MepIdRead, PacketFields};
 
 // Reads a CC.
-#[unsafe(no_mangle)]
-pub extern "C" fn korvezul_read_cc(message: &[u8]) -> CcRead
+pub fn korvezul_read_cc(message: &[u8]) -> CcRead
     ensures { result ≡ cc_read (cc_reading message.now) }
 {
     fields::read_cc(message)
 }
 
 // Reads a CV.
-#[unsafe(no_mangle)]
-pub extern "C" fn korvezul_read_cv(message: &[u8]) -> CvRead
+pub fn korvezul_read_cv(message: &[u8]) -> CvRead
     ensures { result ≡ cv_read_of message.now }
 {
     fields::read_cv(message)
 }
 
 // Reads a MEP-ID alone, from its octets, type to end.
-#[unsafe(no_mangle)]
-pub extern "C" fn korvezul_read_mep_id(octets: &[u8]) -> MepIdRead
+pub fn korvezul_read_mep_id(octets: &[u8]) -> MepIdRead
     ensures { result ≡ mep_read (read_mep octets.now) }
 {
     fields::read_mep_id(octets)
 }
 
 // Reads a fault message.
-#[unsafe(no_mangle)]
-pub extern "C" fn korvezul_read_fault(message: &[u8]) -> FaultRead
+pub fn korvezul_read_fault(message: &[u8]) -> FaultRead
     ensures { result ≡ fault_read (fault_reading message.now) }
 {
     fields::read_fault(message)
 }
 
 // Writes a plain CC, 28 octets: 10 for the fields, then 13 for the buffer, and then no byte changes.
-#[unsafe(no_mangle)]
-pub extern "C" fn korvezul_write_cc_message(buffer: &mut [u8], packet: PacketFields) -> u32
+pub fn korvezul_write_cc_message(buffer: &mut [u8], packet: PacketFields) -> u32
     ensures { record { answer = result; buffer = buffer.new } ≡ writing (cc_write_refusal packet) (cc_octets (packet_from packet)) buffer.old }
 {
     fields::write_cc(buffer, packet)
 }
 
 // Writes a plain CV, 44 octets; of a pseudowire 46 to 78.
-#[unsafe(no_mangle)]
-pub extern "C" fn korvezul_write_cv_message(
+pub fn korvezul_write_cv_message(
     buffer: &mut [u8],
     packet: PacketFields,
     mep: MepId,
@@ -71,24 +65,21 @@ pub extern "C" fn korvezul_write_cv_message(
 }
 
 // Writes a plain fault message, 9, 15, 19 or 25 octets.
-#[unsafe(no_mangle)]
-pub extern "C" fn korvezul_write_fault_message(buffer: &mut [u8], fault: FaultFields) -> u32
+pub fn korvezul_write_fault_message(buffer: &mut [u8], fault: FaultFields) -> u32
     ensures { record { answer = result; buffer = buffer.new } ≡ writing (fault_write_refusal fault) (fault_octets (fault_from fault)) buffer.old }
 {
     fields::write_fault(buffer, fault)
 }
 
 // Reads a DHC message.
-#[unsafe(no_mangle)]
-pub extern "C" fn korvezul_read_dhc(message: &[u8]) -> DhcRead
+pub fn korvezul_read_dhc(message: &[u8]) -> DhcRead
     ensures { result ≡ numbers_by (read_dhc message.now) }
 {
     coordination::read_dhc_numbers(message)
 }
 
 // Writes a plain DHC message, 32, 36 or 56 octets.
-#[unsafe(no_mangle)]
-pub extern "C" fn korvezul_write_dhc_message(buffer: &mut [u8], dhc: DhcNumbers) -> u32
+pub fn korvezul_write_dhc_message(buffer: &mut [u8], dhc: DhcNumbers) -> u32
     ensures { record { answer = result; buffer = buffer.new } ≡ writing (numbers_refusal dhc) (dhc_octets (dhc_from dhc)) buffer.old }
 {
     coordination::write_dhc_numbers(buffer, dhc)

@@ -34,8 +34,7 @@ fn configuration_read(a: ConfigurationAnswer) -> ConfigurationRead
 }
 
 // Reads a list of nested entries; `authentication` is the type of BFD Authentication.
-#[unsafe(no_mangle)]
-pub extern "C" fn korvezul_read_configuration(
+pub fn korvezul_read_configuration(
     octets: &[u8],
     authentication: u16,
 ) -> ConfigurationRead
@@ -46,8 +45,7 @@ pub extern "C" fn korvezul_read_configuration(
 
 // Writes a configuration, 40 octets: 10 for the two numbers, then 13 for the buffer, and then no byte
 // changes.
-#[unsafe(no_mangle)]
-pub extern "C" fn korvezul_write_configuration(
+pub fn korvezul_write_configuration(
     buffer: &mut [u8],
     discriminator: u32,
     period: u32,

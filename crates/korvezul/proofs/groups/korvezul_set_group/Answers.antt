@@ -1,0 +1,9 @@
+-- `korvezul::korvezul_set_group`: the lent call is one command of the table.
+use Rattle.std.proofs.Common.{arith, refl}
+use Rattle.grouping.specs.Commands.{SetGroup}
+use Rattle.korvezul.proofs.OneCommand.{group-command}
+use Rattle.korvezul.proofs.groups.korvezul_set_group.Goals as goal
+
+pub returns : goal.returns
+returns c =
+    group-command c.args.row.now c.args.head.now (omega arith) (SetGroup c.args.group.party c.args.group.settings c.args.reading) refl _ c.set_request-q.ensures _ _ _ c.group_lent-o.ensures _ c.group_number.ensures
