@@ -8,7 +8,7 @@ use mathlib.Core.Bool.{Bool, true, false}
 use mathlib.Core.List.{List}
 use lib.Dec.{ltb}
 use lib.ListN.{length}
-use borrow.Author.Tests.{ltb-true}
+use borrow.Author.Tests.{ltb-true, le-ltb}
 use Rattle.rules.proofs.Bools.{split}
 use Rattle.session.specs.declared.Session.{Session}
 use Rattle.walks.specs.AtPlace.{Afterwards, at_place}
@@ -34,6 +34,36 @@ pub goes_on_lem : (n : ℕ) (log : List ℕ) (a : Afterwards Filling Session) �
 unfolding fills_of
 goes_on_lem zero log a e h = absurd (omega arith)
 goes_on_lem (suc n) log a e h = rw (e, sub-one (suc n))
+
+-- as many turns as entries are left are enough
+enough : (k n : ℕ) (log : List ℕ) (a : Afterwards Filling Session) → a.outcome.count - a.outcome.at ≤ k → a.outcome.count - a.outcome.at ≤ n
+    → fills_of k log a ≡ fills_of n log a
+unfolding fills_of
+enough zero zero log a g h = refl
+enough zero (suc n) log a g h = sym (stays (suc n) log a (le-ltb a.outcome.at a.outcome.count (omega arith)))
+enough (suc k) zero log a g h = stays (suc k) log a (le-ltb a.outcome.at a.outcome.count (omega arith))
+enough (suc k) (suc n) log a g h =
+    split (unfilled a.outcome)
+    (λ e. let fewer = one_less a.row a.outcome log e in
+    rw e (enough k n log (fill_one a.row a.outcome log) (omega (arith, fewer)) (omega (arith, fewer))))
+    (λ e. rw e)
+
+-- a turn of the loop leaves the outcome of all the turns, and fewer entries
+pub turned : (log : List ℕ) (row rows : List Session) (x next : Filling) → unfilled x ≡ true
+    → ◌≡◌ {A = Afterwards Filling Session} (record { outcome = next; row = rows }) (fill_one row x log)
+    → (fills_of (next.count - next.at) log (record { outcome = next; row = rows }) ≡ fills_of (x.count - x.at) log (record { outcome = x; row = row }))
+    × (next.count - next.at < x.count - x.at)
+turned log row rows x next go e =
+    let less = ltb-true x.at x.count go in
+    let fewer = one_less row x log go in
+    let here : next.count - next.at ≡ (fill_one row x log).outcome.count - (fill_one row x log).outcome.at =
+    ap (λ (a : Afterwards Filling Session). a.outcome.count - a.outcome.at) e in
+    let n = x.count - x.at in (
+      enough (next.count - next.at) (n - 1) log (record { outcome = next; row = rows }) (omega arith) (omega (arith, fewer, here))
+          ∙ ap (fills_of (n - 1) log) e
+          ∙ sym (goes_on_lem n log (record { outcome = x; row = row }) go (omega (arith, less))),
+      omega (arith, fewer, here, less),
+    )
 
 -- the same of clocks and places
 pub next-less : (x : Filling) (log : List ℕ) → unfilled x ≡ true → (filled_by x log).count - (filled_by x log).at ≡ x.count - x.at - 1

@@ -8,7 +8,7 @@ use mathlib.Core.Bool.{Bool, true, false, cond, not, ◌&&◌}
 use mathlib.Core.List.{List, []}
 use lib.Dec.{eqb, ltb, leb}
 use lib.ListN.{length, get_or}
-use borrow.Author.Tests.{eqb-true, eqb-false, ltb-true, ltb-false, lt-ltb, le-ltb, le-leb, lt-leb, leb-true, not-true}
+use borrow.Author.Tests.{eqb-true, eqb-false, ltb-true, ltb-false, lt-ltb, le-ltb, le-leb, lt-leb, leb-true, not-true, not-false}
 use Rattle.octets.proofs.Chain.{need-passed, bar-passed, and_both}
 use Rattle.rules.specs.Times.{latest}
 use Rattle.rules.proofs.Bools.{split}
@@ -22,7 +22,7 @@ use Rattle.call_log.specs.Reading.{entry_fits, refused_with}
 use Rattle.indexing.specs.declared.IndexHead.{IndexHead}
 use Rattle.indexing.specs.declared.Search.{Search}
 use Rattle.indexing.specs.Asking.{head_fits, ask_refusal, answer_at, room_of, fits_at, all_fit, answer_of, searched, ask_of}
-use Rattle.indexing.specs.Looking.{entry_of, ended_with, halved_by, looked_at, search_from}
+use Rattle.indexing.specs.Looking.{entry_of, is_open, ended_with, halved_by, looked_at, search_from}
 
 -- ---- one look, from the clock and the place that were read
 abbrev pub by_look : Search → Session → List ℕ → ℕ → ℕ → Search
@@ -251,3 +251,18 @@ starts log h clocks places records l u =
       goes = λ m. absurd (omega arith);
       ends = λ z. refl;
     }))
+
+-- ---- the loop
+module _ (log clocks places : List ℕ) (records : List Session) (l u : ℕ) (target : Answer) where
+  -- a turn of it, as the code has it: n is the entry, r its record and y what the look left
+  pub onward : (x : Search) → Sofar log clocks places records l u target x → is_open x ≡ true → (n : ℕ) → n ≡ entry_of x → (r : Session) → r ≡ get_or records n absent
+      → (y : Search) → y ≡ looked_at x r log clocks places → Sofar log clocks places records l u target y × (y.n < x.n)
+  onward x w h n e₁ r e₂ y e₃ =
+      let some : 0 < x.n = omega (arith, eqb-false x.n 0 (not-true _ h)) in
+      let same : y ≡ looked_at x (get_or records (entry_of x) absent) log clocks places =
+      e₃ ∙ ap (λ (s : Session). looked_at x s log clocks places) (e₂ ∙ ap (λ (m : ℕ). get_or records m absent) e₁) in
+      subst (λ (z : Search). Sofar log clocks places records l u target z × (z.n < x.n)) (sym same) (turned log clocks places records l u target x w some)
+
+  -- the end of it
+  pub over_with : (x : Search) → Sofar log clocks places records l u target x → is_open x ≡ false → (o : Answer) → o ≡ x.answer → o ≡ target
+  over_with x w h o e = e ∙ w.ends (eqb-true x.n 0 (not-false (eqb x.n 0) h))
