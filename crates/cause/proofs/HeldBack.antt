@@ -101,7 +101,7 @@ module _ (l : ℕ) (h : History) where
           (λ b. let y : some i ≡ some k = ap (λ (t : Bool). cond t (some j) (some i)) (sym b) ∙ z in (key, Memᴰ.head refl, f ∙ y))
 
   -- and no key's mark is later
-  pub ending-most : {keys : List Key} {key : Key} → Memᴰ key keys → (j : Mark Fault) → last_of_key l key h ≡ some j
+  pub ending-most : {key : Key} {keys : List Key} → Memᴰ key keys → (j : Mark Fault) → last_of_key l key h ≡ some j
       → (k : Mark Fault) × (last_ending l h keys ≡ some k) × AtMost j k
   unfolding last_ending
   ending-most (Memᴰ.head {x = y} {xs} e) j f =
