@@ -10,7 +10,6 @@ use lib.ListN.{length, take, drop, length-append, length-drop}
 use lib.Seq.{length-take-le, drop-drop, take-add, take-take}
 use borrow.Author.Tests.{eqb-false}
 use Rattle.octets.specs.Choice.{bit_of}
-use Rattle.octets.proofs.Runs.{front}
 use Rattle.rules.proofs.Bools.{split}
 use Rattle.text.specs.Text.{text_after, text_of}
 use Rattle.pump.specs.declared.Pump.{Pump}

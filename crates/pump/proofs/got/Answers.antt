@@ -1,4 +1,3 @@
-use borrow.Author.Rules.{rules}
 use Rattle.pump.specs.Pumping.{got_of}
 use Rattle.pump.proofs.got.Goals as goal
 

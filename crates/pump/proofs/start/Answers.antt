@@ -1,4 +1,3 @@
-use borrow.Author.Rules.{rules}
 use Rattle.pump.specs.Pumping.{starting}
 use Rattle.pump.proofs.start.Goals as goal
 

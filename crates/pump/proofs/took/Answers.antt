@@ -1,4 +1,3 @@
-use borrow.Author.Rules.{rules}
 use Rattle.pump.specs.Pumping.{took_of}
 use Rattle.pump.proofs.took.Goals as goal
 

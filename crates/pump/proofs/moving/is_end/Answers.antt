@@ -1,4 +1,3 @@
-use borrow.Author.Rules.{rules}
 use Rattle.pump.proofs.moving.is_end.Goals as goal
 
 pub returns : goal.returns

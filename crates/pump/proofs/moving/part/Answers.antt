@@ -4,7 +4,6 @@ use mathlib.Core.List.{List, []}
 use lib.ListN.{length, take, drop, length-drop, drop_of_length-le}
 use lib.Seq.{take-nil, take_all}
 use native.Mathlib.Omega.{arith}
-use borrow.Author.Rules.{rules}
 use Rattle.pump.proofs.moving.part.Goals as goal
 
 none : (s : List ℕ) (from to : ℕ) → to < from → [] ≡ take (to - from) (drop from s)

@@ -1,7 +1,6 @@
 use mathlib.Core.Path.{refl, sym, ◌∙◌}
 use native.Mathlib.Omega.{arith}
 use lib.Seq.{take_all, take-length, length-take-le}
-use borrow.Author.Rules.{rules}
 use Rattle.pump.proofs.moving.within.Goals as goal
 
 pub returns-then-n-buf : goal.returns-then-n-buf

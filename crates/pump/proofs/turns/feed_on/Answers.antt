@@ -1,5 +1,4 @@
 use mathlib.Core.Path.{sym, ap, ◌∙◌}
-use borrow.Author.Rules.{rules}
 use Rattle.capture.specs.Records.{is_whole}
 use Rattle.pump.proofs.Turning.{none-fed}
 use Rattle.pump.proofs.turns.feed_on.Goals as goal

@@ -1,4 +1,3 @@
-use borrow.Author.Rules.{rules}
 use Rattle.pump.proofs.turns.is_ready.Goals as goal
 
 pub returns-then-begun : goal.returns-then-begun

@@ -1,4 +1,3 @@
-use borrow.Author.Rules.{rules}
 use Rattle.pump.proofs.turns.is_waiting.Goals as goal
 
 pub returns : goal.returns

@@ -1,4 +1,3 @@
-use borrow.Author.Rules.{rules}
 use Rattle.text.specs.Putting.{empty_table}
 use Rattle.text.proofs.lines.empty_table.Goals as goal
 

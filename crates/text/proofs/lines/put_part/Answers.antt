@@ -1,4 +1,3 @@
-use borrow.Author.Rules.{rules}
 use Rattle.text.specs.Putting.{putting}
 use Rattle.text.proofs.lines.put_part.Goals as goal
 
