@@ -4,7 +4,7 @@ use Rattle.capture.proofs.Typing.{seven}
 use Rattle.index_file.proofs.words.put_report.Goals as goal
 
 pub shape_of-out : goal.shape_of-out
-shape_of-out c = c.put_spaced.auto.0 ∙ c.put_spaced-f.auto.0 ∙ c.put_spaced-e.auto.0 ∙ c.put_spaced-d.auto.0 ∙ c.put_spaced-c.auto.0 ∙ c.put_spaced-b.auto.0 ∙ c.put_spaced-a.auto.0
+shape_of-out c = c.put_spaced.auto.out ∙ c.put_spaced-f.auto.out ∙ c.put_spaced-e.auto.out ∙ c.put_spaced-d.auto.out ∙ c.put_spaced-c.auto.out ∙ c.put_spaced-b.auto.out ∙ c.put_spaced-a.auto.out
 
 pub returns : goal.returns
 returns c = let a = c.args in
