@@ -1,2 +1,0 @@
-pub mod GroupPlains
-pub mod GroupParts

@@ -1,6 +1,5 @@
-// Walks by hand of code that holds a lent row and its head, for the calls that concern groups, each
-// over any plain types and any callees: what matters stands in proofs/. A crate has a function, and
-// this one says how many ways a call has that goes one of two.
+// Calls that concern groups go one of two ways, by a test. A crate has a function, and this one says
+// how many the ways are.
 #![tactic(auto)]
 
 ghost use Rattle.std.specs.Prelude.{◌≡◌};

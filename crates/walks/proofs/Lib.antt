@@ -1,4 +1,2 @@
-pub mod Plain
 pub mod Branches
-pub mod ByWalk
 pub mod AtPlace

@@ -1,5 +1,6 @@
-// Walks by hand of code that holds a lent row, each over any plain types and any callees: what
-// matters stands in proofs/. A crate has a function, and this one is where every pass begins.
+// What a call at one place of a row comes to, whatever its records are, and what a test says of its
+// two branches: what matters stands in specs/ and proofs/. A crate has a function, and this one is
+// where every pass begins.
 #![tactic(auto)]
 
 ghost use Rattle.std.specs.Prelude.{◌≡◌};

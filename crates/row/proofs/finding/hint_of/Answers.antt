@@ -1,4 +1,3 @@
-use borrow.Author.Rules.{rules}
 use Rattle.table.specs.Hints.{hint_of}
 use Rattle.row.proofs.finding.hint_of.Goals as goal
 

@@ -1,4 +1,3 @@
-use borrow.Author.Rules.{rules}
 use Rattle.table.specs.Hints.{hint_kept}
 use Rattle.row.proofs.finding.keep_hint.Goals as goal
 

@@ -1,5 +1,4 @@
 -- The calls come to `at_place`, at what this message does with a record.
-use mathlib.Core.Path.{◌≡◌}
 use Prim.Native.Nat.{ℕ}
 use mathlib.Core.List.{List}
 use Rattle.session.specs.declared.Session.{Session}
@@ -7,7 +6,7 @@ use Rattle.session.specs.declared.acts.Acted.{Acted}
 use Rattle.session.specs.Live.{bfd_acted, with_live}
 use Rattle.step.specs.declared.Arrival.{Arrival}
 use Rattle.step.specs.declared.Outcome.{Outcome}
-use Rattle.step.specs.Arriving.{message_in, met_at, unmet_of, received_of, bfd_at}
+use Rattle.step.specs.Arriving.{message_in, met_at, unmet_of, received_of}
 use Rattle.table.specs.Table.{absent}
 use Rattle.walks.proofs.AtPlace.{unmet-there, done-there}
 use Rattle.row.proofs.known.bfd_at.Goals as goal

@@ -1,5 +1,5 @@
 -- The call by the kind of the message.
-use mathlib.Core.Path.{◌≡◌, sym, ap, ◌∙◌}
+use mathlib.Core.Path.{sym, ap, ◌∙◌}
 use mathlib.Core.Bool.{Bool, cond}
 use Rattle.step.specs.Arriving.{bfd_at, fault_at, receive_at}
 use Rattle.step.specs.Stepping.{Obeyed}
