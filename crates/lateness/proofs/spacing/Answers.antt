@@ -1,6 +1,4 @@
 use mathlib.Core.Path.{sym, ap, ◌∙◌}
-use borrow.Author.Rules.{rules}
-use borrow.Author.Tests.{not-true, not-false}
 use Rattle.account.specs.Accounts.{finished_of}
 use Rattle.lateness.proofs.Whole.{unfit, spaces}
 use Rattle.lateness.proofs.spacing.Goals as goal
@@ -10,11 +8,11 @@ returns-then-not-header_fits c =
     let s = c.args in
     c.finish.ensures
     ∙ ap finished_of c.nothing.ensures
-    ∙ unfit s.capture.now s.label (sym c.header_fits.ensures ∙ not-true c.header_fits.result c.if-not-header_fits.true)
+    ∙ unfit s.capture.now s.label (sym c.header_fits.ensures ∙ c.if-not-header_fits.true)
 
 pub returns : goal.returns
 returns c =
     let s = c.args in
-    spaces s.capture.now s.label (sym c.header_fits.ensures ∙ not-false c.header_fits.result c.if-not-header_fits.false)
+    spaces s.capture.now s.label (sym c.header_fits.ensures ∙ c.if-not-header_fits.false)
     c.begin.result c.begin.ensures c.pace-t.result c.pace-t.ensures
     c.finish-2.result c.finish-2.ensures

@@ -1,6 +1,4 @@
 use mathlib.Core.Path.{sym, ◌∙◌}
-use borrow.Author.Rules.{rules}
-use borrow.Author.Tests.{not-true, not-false}
 use Rattle.gauge.proofs.OneRead.{already, not-begun, waits, wrong, right}
 use Rattle.gauge.proofs.input.begin.Goals as goal
 
@@ -16,14 +14,13 @@ pub returns-then-not-header_fits : goal.returns-then-not-header_fits
 returns-then-not-header_fits c =
     let s = c.args in
     wrong s.g s.buf.now c.within-n.result c.within-n.ensures c.if-n-lt8.false
-    (sym c.header_fits.ensures ∙ not-true c.header_fits.result c.if-not-header_fits.true) c.settle.result c.settle.ensures
+    (sym c.header_fits.ensures ∙ c.if-not-header_fits.true) c.settle.result c.settle.ensures
     ∙ not-begun s.g s.buf.now c.if-g.false
 
 pub returns : goal.returns
 returns c =
-    let b = w in
-    let s = b.args in
+    let s = c.args in
     right s.g s.buf.now c.within-n.result c.within-n.ensures c.if-n-lt8.false
-    (sym c.header_fits.ensures ∙ not-false c.header_fits.result c.if-not-header_fits.false) c.shift-have.result c.shift-have.new.0 c.shift-have.ensures
+    (sym c.header_fits.ensures ∙ c.if-not-header_fits.false) c.shift-have.result c.shift-have.new.buf c.shift-have.ensures
     c.header_read.result c.header_read.ensures
-    ∙ not-begun s.g s.buf.now b.if1.false
+    ∙ not-begun s.g s.buf.now c.if-g.false

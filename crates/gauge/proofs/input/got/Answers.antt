@@ -1,5 +1,4 @@
 use mathlib.Core.Path.{◌∙◌}
-use borrow.Author.Rules.{rules}
 use Rattle.gauge.specs.Gauging.{Gauged}
 use Rattle.gauge.proofs.OneRead.{paces, rests, no_more, goes_on_lem}
 use Rattle.gauge.proofs.input.got.Goals as goal
@@ -9,15 +8,14 @@ returns-then-g c = let s = c.args in no_more s.g s.n s.buf.now c.if-g.true
 
 pub returns-then-begun : goal.returns-then-begun
 returns-then-begun c =
-    let f = h in
-    let s = f.args in
-    let began : Gauged = record { gauge = c.begin-begun.result; buf = c.begin-begun.new.1.0 } in
+    let s = c.args in
+    let began : Gauged = record { gauge = c.begin-begun.result; buf = c.begin-begun.new.buf } in
     c.pace_on.ensures ∙ paces began c.if-begun.true
-    ∙ goes_on_lem s.g s.n s.buf.now f.if1.false c.advance.result c.advance.ensures c.hold-held.result c.hold-held.ensures began c.begin-begun.ensures
+    ∙ goes_on_lem s.g s.n s.buf.now c.if-g.false c.advance.result c.advance.ensures c.hold-held.result c.hold-held.ensures began c.begin-begun.ensures
 
 pub returns : goal.returns
 returns c =
     let s = c.args in
-    let began : Gauged = record { gauge = c.begin-begun.result; buf = c.begin-begun.new.1.0 } in
+    let began : Gauged = record { gauge = c.begin-begun.result; buf = c.begin-begun.new.buf } in
     rests began c.if-begun.false
     ∙ goes_on_lem s.g s.n s.buf.now c.if-g.false c.advance.result c.advance.ensures c.hold-held.result c.hold-held.ensures began c.begin-begun.ensures

@@ -1,6 +1,5 @@
 use mathlib.Core.Path.{sym}
 use lib.Seq.{length-take-le}
-use borrow.Author.Rules.{rules}
 use Rattle.gauge.proofs.OneRead.{moved-fits, paced}
 use Rattle.gauge.proofs.input.pace_on.Goals as goal
 
@@ -11,11 +10,10 @@ slice_bounds-next_record-end c =
 
 pub slice_bounds-next_record-end-2 : goal.slice_bounds-next_record-end-2
 slice_bounds-next_record-end-2 c =
-    sym (length-take-le c.shift-have.result c.shift-have.new.0 (moved-fits _ _ _ _ _ c.within-n.ensures.fits c.shift-have.ensures))
+    sym (length-take-le c.shift-have.result c.shift-have.new.buf (moved-fits _ _ _ _ _ c.within-n.ensures.fits c.shift-have.ensures))
 
 pub returns : goal.returns
 returns c =
-    let w = a in
-    let s = w.args in
-    paced s.g s.buf.now w.within.result w.within.ensures c.rewind.result c.pace-asked.result c.rewind.ensures c.pace-asked.ensures
-    c.shift-have.result c.shift-have.new.0 c.shift-have.ensures c.next_record.result c.next_record.ensures c.cannot_mend-over.result c.cannot_mend-over.ensures
+    let s = c.args in
+    paced s.g s.buf.now c.within-n.result c.within-n.ensures c.rewind.result c.pace-asked.result c.rewind.ensures c.pace-asked.ensures
+    c.shift-have.result c.shift-have.new.buf c.shift-have.ensures c.next_record.result c.next_record.ensures c.cannot_mend-over.result c.cannot_mend-over.ensures

@@ -22,12 +22,12 @@ module _ (z : ℤ) (fits : SFits w64 z) where
 
 pub returns-then-z-lt0 : goal.returns-then-z-lt0
 returns-then-z-lt0 c =
-    let s = n in
+    let s = c in
     let p : Put = record { buffer = s.args.out.now; at = s.args.at } in
-    rw (below-words s.args.z (test-held s.args.z s.ranges.z c.if-z-lt0.true), ← size s.args.z s.ranges.z c.type_size.result c.type_size.ensures)
+    rw (below-words s.args.z (test-held s.args.z s.ranges.z c.if-z-lt0.true), ← size s.args.z s.ranges.z c.size_of-size.result c.size_of-size.ensures)
     (then p _ _ c.put_words-a.ensures c.put_decimal.ensures)
 
 pub returns : goal.returns
 returns c =
-    rw (above-words c.args.z (test-held c.args.z c.ranges.z c.if-z-lt0.false), ← size c.args.z c.ranges.z c.type_size.result c.type_size.ensures)
+    rw (above-words c.args.z (test-held c.args.z c.ranges.z c.if-z-lt0.false), ← size c.args.z c.ranges.z c.size_of-size.result c.size_of-size.ensures)
     c.put_decimal-2.ensures

@@ -8,8 +8,6 @@ use Rattle.gauge.proofs.words.put_sums.Goals as goal
 pub returns : goal.returns
 unfolding sum_words
 returns c =
-    let v = w in
-    let a = v in
-    let s = a.args in
+    let s = c.args in
     let p : Put = record { buffer = s.out.now; at = s.at } in
-    then p _ _ (then p _ _ (then p _ _ (then p _ _ v.put-words.ensures (as-signed s.sum a.ranges.sum _ _ c.put_signed-b.ensures)) c.put_words-c.ensures) c.put_decimal-d.ensures) c.put_words.ensures
+    then p _ _ (then p _ _ (then p _ _ (then p _ _ c.put_words-a.ensures (as-signed s.sum c.ranges.sum _ _ c.put_signed-b.ensures)) c.put_words-c.ensures) c.put_decimal-d.ensures) c.put_words.ensures
