@@ -136,12 +136,7 @@ pub fn korvezul_set_group(
 }
 
 // Its AC becomes active or standby.
-pub fn korvezul_set_ac(
-    row: &mut [Session],
-    head: &mut Head,
-    ac: AcOf,
-    reading: u64,
-) -> u32
+pub fn korvezul_set_ac(row: &mut [Session], head: &mut Head, ac: AcOf, reading: u64) -> u32
     ensures { record { said = silent result; table = table_of row.new head.new } ≡ commanded (table_of row.old head.old) (SetAc ac.group.party ac.group.id ac.ac reading) }
 {
     let q = ac_request(ac, reading);
@@ -164,11 +159,7 @@ pub fn korvezul_return_group(
 }
 
 // PW, AC and forwarding of a group at the clock. Nothing changes.
-pub fn korvezul_ask_group(
-    row: &mut [Session],
-    head: &mut Head,
-    group: GroupName,
-) -> GroupAnswer
+pub fn korvezul_ask_group(row: &mut [Session], head: &mut Head, group: GroupName) -> GroupAnswer
     ensures { record { told = told_in result; table = table_of row.new head.new } ≡ asked_on (table_of row.old head.old) group.party group.id }
 {
     let q = ask_request(group);

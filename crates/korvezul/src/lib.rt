@@ -104,12 +104,7 @@ pub fn korvezul_tick(row: &mut [Session], head: &mut Head, reading: u64) -> u32
 }
 
 // A new session, in the lowest free place.
-pub fn korvezul_open(
-    row: &mut [Session],
-    head: &mut Head,
-    opening: OpeningFor,
-    reading: u64,
-) -> u32
+pub fn korvezul_open(row: &mut [Session], head: &mut Head, opening: OpeningFor, reading: u64) -> u32
     ensures { record { said = number_only (Open (own_settings opening) reading) result; table = table_of row.new head.new } ≡ called (table_of row.old head.old) (Open (own_settings opening) reading) }
 {
     let g = requests::opening(opening, reading);
@@ -118,12 +113,7 @@ pub fn korvezul_open(
 }
 
 // The session of a label is given up.
-pub fn korvezul_close(
-    row: &mut [Session],
-    head: &mut Head,
-    circuit: Circuit,
-    reading: u64,
-) -> u32
+pub fn korvezul_close(row: &mut [Session], head: &mut Head, circuit: Circuit, reading: u64) -> u32
     ensures { record { said = number_only (On (meant_by circuit) (Close reading)) result; table = table_of row.new head.new } ≡ called (table_of row.old head.old) (On (meant_by circuit) (Close reading)) }
 {
     let q = close_request(circuit, reading);
@@ -131,12 +121,7 @@ pub fn korvezul_close(
     number(o)
 }
 
-pub fn korvezul_lock(
-    row: &mut [Session],
-    head: &mut Head,
-    circuit: Circuit,
-    reading: u64,
-) -> u32
+pub fn korvezul_lock(row: &mut [Session], head: &mut Head, circuit: Circuit, reading: u64) -> u32
     ensures { record { said = number_only (On (meant_by circuit) (Lock reading)) result; table = table_of row.new head.new } ≡ called (table_of row.old head.old) (On (meant_by circuit) (Lock reading)) }
 {
     let q = lock_request(circuit, reading);
@@ -144,12 +129,7 @@ pub fn korvezul_lock(
     number(o)
 }
 
-pub fn korvezul_unlock(
-    row: &mut [Session],
-    head: &mut Head,
-    circuit: Circuit,
-    reading: u64,
-) -> u32
+pub fn korvezul_unlock(row: &mut [Session], head: &mut Head, circuit: Circuit, reading: u64) -> u32
     ensures { record { said = number_only (On (meant_by circuit) (Unlock reading)) result; table = table_of row.new head.new } ≡ called (table_of row.old head.old) (On (meant_by circuit) (Unlock reading)) }
 {
     let q = unlock_request(circuit, reading);
@@ -191,11 +171,7 @@ pub fn korvezul_receive(
 }
 
 // The report on a label, at the clock.
-pub fn korvezul_report(
-    row: &mut [Session],
-    head: &mut Head,
-    circuit: Circuit,
-) -> ReportAnswer
+pub fn korvezul_report(row: &mut [Session], head: &mut Head, circuit: Circuit) -> ReportAnswer
     ensures { record { said = said_in result; table = table_of row.new head.new } ≡ called (table_of row.old head.old) (On (meant_by circuit) ReportOn) }
 {
     let q = report_request(circuit);

@@ -15,12 +15,7 @@ pub fn korvezul_log_header(buffer: &mut [u8]) -> u32
 
 // An open, 53 octets: 10 for settings that a record cannot hold, then 13 for the buffer, and then no
 // byte changes.
-pub fn korvezul_log_open(
-    buffer: &mut [u8],
-    settings: Settings,
-    reading: u64,
-    answer: u16,
-) -> u32
+pub fn korvezul_log_open(buffer: &mut [u8], settings: Settings, reading: u64, answer: u16) -> u32
     ensures { record { answer = result; buffer = buffer.new } ≡ writing (open_refusal settings) (open_octets settings reading answer) buffer.old }
 {
     logging::write_open(buffer, settings, reading, answer)

@@ -54,11 +54,7 @@ pub fn korvezul_write_cc_message(buffer: &mut [u8], packet: PacketFields) -> u32
 }
 
 // Writes a plain CV, 44 octets; of a pseudowire 46 to 78.
-pub fn korvezul_write_cv_message(
-    buffer: &mut [u8],
-    packet: PacketFields,
-    mep: MepId,
-) -> u32
+pub fn korvezul_write_cv_message(buffer: &mut [u8], packet: PacketFields, mep: MepId) -> u32
     ensures { record { answer = result; buffer = buffer.new } ≡ writing (cv_write_refusal packet mep) (cv_octets (packet_from packet) mep) buffer.old }
 {
     fields::write_cv(buffer, packet, mep)

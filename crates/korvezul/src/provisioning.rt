@@ -34,10 +34,7 @@ fn configuration_read(a: ConfigurationAnswer) -> ConfigurationRead
 }
 
 // Reads a list of nested entries; `authentication` is the type of BFD Authentication.
-pub fn korvezul_read_configuration(
-    octets: &[u8],
-    authentication: u16,
-) -> ConfigurationRead
+pub fn korvezul_read_configuration(octets: &[u8], authentication: u16) -> ConfigurationRead
     ensures { result ≡ configuration_read (read_configuration authentication octets.now) }
 {
     configuration_read(configuration::read_configuration(octets, authentication))
@@ -45,11 +42,7 @@ pub fn korvezul_read_configuration(
 
 // Writes a configuration, 40 octets: 10 for the two numbers, then 13 for the buffer, and then no byte
 // changes.
-pub fn korvezul_write_configuration(
-    buffer: &mut [u8],
-    discriminator: u32,
-    period: u32,
-) -> u32
+pub fn korvezul_write_configuration(buffer: &mut [u8], discriminator: u32, period: u32) -> u32
     ensures { record { answer = result; buffer = buffer.new } ≡ writing (offer_refusal discriminator period) (configuration_octets discriminator period) buffer.old }
 {
     configuration::write_configuration(buffer, discriminator, period)

@@ -1,4 +1,3 @@
-use borrow.Author.Rules.{rules}
 use Rattle.korvezul.proofs.groups.group_answer.Goals as goal
 
 pub returns : goal.returns

@@ -1,4 +1,3 @@
-use borrow.Author.Rules.{rules}
 use mathlib.Core.Path.{sym, ap}
 use Rattle.configuration.specs.declared.ConfigurationAnswer.{ConfigurationAnswer}
 use Rattle.configuration.specs.Reading.{said}

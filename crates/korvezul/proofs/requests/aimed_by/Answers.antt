@@ -1,4 +1,3 @@
-use borrow.Author.Rules.{rules}
 use Rattle.korvezul.proofs.requests.aimed_by.Goals as goal
 
 pub returns : goal.returns

@@ -1,4 +1,3 @@
-use borrow.Author.Rules.{rules}
 use Rattle.korvezul.proofs.requests.lock_request.Goals as goal
 
 pub returns : goal.returns
