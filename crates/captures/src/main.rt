@@ -10,54 +10,54 @@ mod playing;
 use stored::say;
 
 // Whether a text is the one expected; if not, it is printed.
-fn is_expected(text: &[u8], expected: &[u8]) -> bool {
-    if check::same(text, expected) {
+fn is_expected(rt: HostRuntime, text: &[u8], expected: &[u8]) -> bool {
+    if text == expected {
         return true;
     }
-    stored::say_differs(text);
+    stored::say_differs(rt, text);
     false
 }
 
 // The capture fed in steps of so many octets.
-fn holds_in_steps(capture: &[u8], step: usize, expected: &[u8]) -> bool {
-    let mut out = io::large_buffer();
+fn holds_in_steps(rt: HostRuntime, capture: &[u8], step: usize, expected: &[u8]) -> bool {
+    let mut out = [0u8; 65_536];
     let n = playing::text_of(capture, step, &mut out);
-    is_expected(&out[..n], expected)
+    is_expected(rt, &out[..n], expected)
 }
 
-fn hold(capture: &[u8], expected: &[u8]) {
-    if !holds_in_steps(capture, capture.len(), expected) {
+fn hold(rt: HostRuntime, capture: &[u8], expected: &[u8]) {
+    if !holds_in_steps(rt, capture, capture.len(), expected) {
         return;
     }
-    if !holds_in_steps(capture, 7, expected) {
+    if !holds_in_steps(rt, capture, 7, expected) {
         return;
     }
-    stored::say_holds(stored::line_count(expected), b" lines");
+    stored::say_holds(rt, stored::line_count(expected), b" lines");
 }
 
 // The capture that argument i names.
-fn run_named(i: usize) {
-    let mut name = io::buffer();
-    let n = os::arg(i, &mut name);
-    say(&name[..n]);
-    let mut capture = io::large_buffer();
-    let given = stored::read_named(&mut name, n, b".capture", &mut capture);
-    let mut expected = io::large_buffer();
-    let wanted = stored::read_named(&mut name, n, b".lines", &mut expected);
+fn run_named(rt: HostRuntime, i: usize) {
+    let mut name = [0u8; 4_096];
+    let n = arguments::argument_or_none(rt, i, &mut name);
+    say(rt, &name[..n]);
+    let mut capture = [0u8; 65_536];
+    let given = stored::read_named(rt, &mut name, n, b".capture", &mut capture);
+    let mut expected = [0u8; 65_536];
+    let wanted = stored::read_named(rt, &mut name, n, b".lines", &mut expected);
     if !given.whole || !wanted.whole {
-        say(b": cannot be read\n");
+        say(rt, b": cannot be read\n");
         return;
     }
     let size = given.size;
     let lines = wanted.size;
-    hold(&capture[..size], &expected[..lines]);
+    hold(rt, &capture[..size], &expected[..lines]);
 }
 
-fn main() {
-    let count = os::arg_count();
+fn main(rt: HostRuntime) {
+    let count = arguments::count(rt);
     let mut i: usize = 1;
     while i < count {
-        run_named(i);
+        run_named(rt, i);
         i += 1;
     }
 }

@@ -1,5 +1,5 @@
 // A capture fed to a table in steps, as if its octets came one step after the other.
-ghost use Rattle.io.specs.Counts.{IsPrefixLen};
+ghost use Rattle.std.specs.Counts.{IsPrefixLen};
 
 use capture::Next;
 use feed::Fed;

@@ -17,7 +17,6 @@ sum a b = cond (ltb (18446744073709551615 - a) b) 18446744073709551615 (a + b)
 abbrev pub further_by : Window → ℕ → ℕ → Window
 further_by w n records =
     record {
-      file = w.file;
       from = sum w.from n;
       to = w.to;
       ended = w.ended;

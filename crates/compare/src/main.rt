@@ -6,7 +6,16 @@
 mod window;
 
 use comparison::Marks;
-use window::{Window, filled, left, opened, passed, seen};
+use std::fs::File;
+use std::io::Error;
+use window::{Window, filled, first, left, passed, seen};
+
+// The files that are compared.
+#[derive(Drop)]
+struct Files {
+    first: File,
+    second: File,
+}
 
 // The place where the rest begins, the number of the pair to come, whether all agreed so far, and
 // whether all was written.
@@ -34,39 +43,39 @@ struct Judged {
 }
 
 // ---- the lines
-fn say_pair(number: u64, m: Marks) -> bool {
+fn say_pair(rt: HostRuntime, number: u64, m: Marks) -> bool {
     let mut lines = [0u8; 512];
     let n = comparison::put_pair(&mut lines, 0, number, m);
-    syscall::write_text(b"compare", &lines, n, number)
+    syscall::write_text(rt, b"compare", &lines, n, number)
 }
 
-fn say_refused(answer: u64) {
+fn say_refused(rt: HostRuntime, answer: u64) {
     let mut line = [0u8; 64];
     let n = comparison::put_refused(&mut line, 0, answer);
-    syscall::write_text(b"compare", &line, n, 0);
+    syscall::write_text(rt, b"compare", &line, n, 0);
 }
 
-fn say_rest(place: u64) {
+fn say_rest(rt: HostRuntime, place: u64) {
     let mut line = [0u8; 64];
     let n = comparison::put_rest(&mut line, 0, place);
-    syscall::write_text(b"compare", &line, n, 0);
+    syscall::write_text(rt, b"compare", &line, n, 0);
 }
 
 // ---- each file by itself
 // One record further, or none.
-fn pass_record(w: Window, buf: &mut [u8]) -> Window {
-    let f = filled(w, &mut *buf);
+fn pass_record(rt: HostRuntime, file: &File, w: Window, buf: &mut [u8]) -> Window {
+    let f = filled(rt, file, w, &mut *buf);
     let step = comparison::step_of(seen(f, &*buf));
     passed(f, step, 1)
 }
 
 // Behind the last whole record. The number of records is bounded by one that no run uses up.
-fn pass_records(from: Window, buf: &mut [u8]) -> Window {
+fn pass_records(rt: HostRuntime, file: &File, from: Window, buf: &mut [u8]) -> Window {
     let mut w = from;
     let mut go = true;
     let mut turns = u64::MAX;
     while turns > 0 && go {
-        let next = pass_record(w, &mut *buf);
+        let next = pass_record(rt, file, w, &mut *buf);
         go = w.place < next.place;
         w = next;
         turns -= 1;
@@ -75,38 +84,42 @@ fn pass_records(from: Window, buf: &mut [u8]) -> Window {
 }
 
 // What a file is from its header to its end: whether it is a capture, and whether a read failed.
-fn look_through(w: Window, buf: &mut [u8]) -> Judged {
-    let f = filled(w, &mut *buf);
+fn look_through(rt: HostRuntime, file: &File, buf: &mut [u8]) -> Judged {
+    let f = filled(rt, file, first(), &mut *buf);
     if !capture::header_fits(seen(f, &*buf)) {
         return Judged {
             good: false,
             failed: f.failed,
         };
     }
-    let end = pass_records(passed(f, 8, 0), buf);
+    let end = pass_records(rt, file, passed(f, 8, 0), buf);
     Judged {
         good: left(end) == 0,
         failed: end.failed,
     }
 }
 
-// Whether the file that argument i names is good. That it cannot be opened or that it is bad is said
-// here; that a read failed was said behind the read.
-fn is_compared(i: usize, unread: &[u8], answer: u64, buf: &mut [u8]) -> bool {
-    let w = opened(i);
-    if w.file < 0 {
-        stored::say(unread);
-        return false;
-    }
-    let j = look_through(w, buf);
-    libc::close(w.file);
+// Whether a file is good. That it is bad is said here; that a read failed was said behind the read.
+fn is_good(rt: HostRuntime, file: &File, answer: u64, buf: &mut [u8]) -> bool {
+    let j = look_through(rt, file, buf);
     if j.failed {
         return false;
     }
     if !j.good {
-        say_refused(answer);
+        say_refused(rt, answer);
     }
     j.good
+}
+
+// Whether the file that argument i names is good. That it cannot be opened is said here.
+fn is_compared(rt: HostRuntime, i: usize, unread: &[u8], answer: u64, buf: &mut [u8]) -> bool {
+    match arguments::opened_at(rt, i) {
+        Some(file) => is_good(rt, &file, answer, buf),
+        None => {
+            stored::say(rt, unread);
+            false
+        }
+    }
 }
 
 // ---- both, pair by pair
@@ -139,16 +152,16 @@ fn told_by(t: Told, m: Marks, place: u64, written: bool) -> Told {
 }
 
 // The second is not read where a read of the first failed.
-fn fill_second(a: Window, b: Window, second: &mut [u8]) -> Window {
+fn fill_second(rt: HostRuntime, file: &File, a: Window, b: Window, second: &mut [u8]) -> Window {
     if a.failed {
         return b;
     }
-    filled(b, second)
+    filled(rt, file, b, second)
 }
 
-fn fill_both(p: Pair, first: &mut [u8], second: &mut [u8]) -> Pair {
-    let a = filled(p.first, first);
-    let b = fill_second(a, p.second, second);
+fn fill_both(rt: HostRuntime, files: &Files, p: Pair, first: &mut [u8], second: &mut [u8]) -> Pair {
+    let a = filled(rt, &files.first, p.first, first);
+    let b = fill_second(rt, &files.second, a, p.second, second);
     let told = p.told;
     Pair {
         first: a,
@@ -175,11 +188,11 @@ fn stopped(p: Pair) -> Pair {
 }
 
 // One pair, of what is at hand.
-fn tell_next(p: Pair, first: &[u8], second: &[u8]) -> Pair {
+fn tell_next(rt: HostRuntime, p: Pair, first: &[u8], second: &[u8]) -> Pair {
     let s = seen(p.first, first);
     let t = seen(p.second, second);
     let m = comparison::marks_of(s, t);
-    let written = say_pair(p.told.number, m);
+    let written = say_pair(rt, p.told.number, m);
     let told = told_by(p.told, m, p.first.place, written);
     let n = comparison::step_of(s);
     let k = comparison::step_of(t);
@@ -194,21 +207,21 @@ fn tell_next(p: Pair, first: &[u8], second: &[u8]) -> Pair {
 }
 
 // One pair more, unless a read failed: behind that nothing is told, nor behind a write that failed.
-fn tell_pair(p: Pair, first: &mut [u8], second: &mut [u8]) -> Pair {
-    let q = fill_both(p, &mut *first, &mut *second);
+fn tell_pair(rt: HostRuntime, files: &Files, p: Pair, first: &mut [u8], second: &mut [u8]) -> Pair {
+    let q = fill_both(rt, files, p, &mut *first, &mut *second);
     if is_failed(q) {
         return stopped(q);
     }
-    tell_next(q, &*first, &*second)
+    tell_next(rt, q, &*first, &*second)
 }
 
 // Pair by pair.
-fn tell(start: Pair, first: &mut [u8], second: &mut [u8]) -> Pair {
+fn tell(rt: HostRuntime, files: &Files, start: Pair, first: &mut [u8], second: &mut [u8]) -> Pair {
     let mut p = start;
     let mut go = true;
     let mut turns = u64::MAX;
     while turns > 0 && go {
-        p = tell_pair(p, &mut *first, &mut *second);
+        p = tell_pair(rt, files, p, &mut *first, &mut *second);
         go = p.go;
         turns -= 1;
     }
@@ -216,18 +229,18 @@ fn tell(start: Pair, first: &mut [u8], second: &mut [u8]) -> Pair {
 }
 
 // A file behind its header.
-fn behind_header(i: usize, buf: &mut [u8]) -> Window {
-    let w = filled(opened(i), buf);
+fn behind_header(rt: HostRuntime, file: &File, buf: &mut [u8]) -> Window {
+    let w = filled(rt, file, first(), buf);
     passed(w, 8, 0)
 }
 
 // All pairs, and then the place where the rest begins.
-fn compare_files(first: &mut [u8], second: &mut [u8]) {
-    let a = behind_header(1, &mut *first);
+fn compare_files(rt: HostRuntime, files: &Files, first: &mut [u8], second: &mut [u8]) {
+    let a = behind_header(rt, &files.first, &mut *first);
     if a.failed {
         return;
     }
-    let b = behind_header(2, &mut *second);
+    let b = behind_header(rt, &files.second, &mut *second);
     let told = Told {
         rest: 8,
         number: 1,
@@ -240,28 +253,58 @@ fn compare_files(first: &mut [u8], second: &mut [u8]) {
         told,
         go: true,
     };
-    let end = tell(p, first, second);
+    let end = tell(rt, files, p, first, second);
     if !is_failed(end) {
-        say_rest(end.told.rest);
+        say_rest(rt, end.told.rest);
     }
 }
 
-fn run() {
-    let mut first = io::large_buffer();
-    let mut second = io::large_buffer();
-    if !is_compared(1, b"FIRST cannot be read\n", 22, &mut first) {
-        return;
+// A file that is not there any more, told of as one that nothing can be read of.
+fn opened_again(rt: HostRuntime, i: usize) -> Option<File> {
+    let file = arguments::opened_at(rt, i);
+    if file.is_none() {
+        syscall::is_again(
+            rt.stderr(),
+            b"compare",
+            false,
+            Error::from_raw_os_error(9),
+            0,
+        );
     }
-    if !is_compared(2, b"SECOND cannot be read\n", 23, &mut second) {
-        return;
-    }
-    compare_files(&mut first, &mut second);
+    file
 }
 
-fn main() {
-    if os::arg_count() == 3 {
-        run();
+// Both files once more, from their first octets on.
+fn compare_again(rt: HostRuntime, first: &mut [u8], second: &mut [u8]) {
+    let Some(one) = opened_again(rt, 1) else {
+        return;
+    };
+    let Some(other) = opened_again(rt, 2) else {
+        return;
+    };
+    let files = Files {
+        first: one,
+        second: other,
+    };
+    compare_files(rt, &files, first, second);
+}
+
+fn run(rt: HostRuntime) {
+    let mut first = [0u8; 65_536];
+    let mut second = [0u8; 65_536];
+    if !is_compared(rt, 1, b"FIRST cannot be read\n", 22, &mut first) {
+        return;
+    }
+    if !is_compared(rt, 2, b"SECOND cannot be read\n", 23, &mut second) {
+        return;
+    }
+    compare_again(rt, &mut first, &mut second);
+}
+
+fn main(rt: HostRuntime) {
+    if arguments::count(rt) == 3 {
+        run(rt);
     } else {
-        stored::say(b"usage: compare FIRST SECOND\n");
+        stored::say(rt, b"usage: compare FIRST SECOND\n");
     }
 }

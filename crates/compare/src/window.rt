@@ -2,12 +2,15 @@
 ghost use Rattle.std.specs.Prelude.{◌≡◌};
 ghost use Rattle.compare.specs.Windows.{left_in, seen_in, sum, further_by};
 
+use std::fs::File;
+use std::io;
+use std::io::Read;
+
 // From one place of the buffer to another they are not passed yet; whether the file has no more
 // behind them, or a read of it failed; which octet of the file is the first of them, and how many
 // records were passed.
 #[derive(Clone, Copy)]
 pub struct Window {
-    pub file: i32,
     pub from: usize,
     pub to: usize,
     pub ended: bool,
@@ -45,13 +48,9 @@ pub fn left(w: Window) -> usize
     w.to - w.from
 }
 
-// The file that argument i names, before its first octet.
-pub fn opened(i: usize) -> Window {
-    let mut name = io::buffer();
-    let n = os::arg(i, &mut name);
-    let file = os::open_read(&name[..n]);
+// A file before its first octet.
+pub fn first() -> Window {
     Window {
-        file: file,
         from: 0,
         to: 0,
         ended: false,
@@ -91,7 +90,6 @@ fn shift(buf: &mut [u8], from: usize, n: usize) {
 
 fn reached(w: Window, from: usize, to: usize, ended: bool, failed: bool) -> Window {
     Window {
-        file: w.file,
         from: from,
         to: to,
         ended: ended,
@@ -103,23 +101,22 @@ fn reached(w: Window, from: usize, to: usize, ended: bool, failed: bool) -> Wind
 
 // What one read answered. None is the file's end; one that failed is told of, and nothing is read
 // behind it.
-fn after_read(w: Window, got: isize, buf: &[u8]) -> Window {
-    if got < 0 {
-        let again = syscall::is_again(b"compare", false, os::errno(), w.records);
-        return reached(w, w.from, w.to, !again, !again);
+fn after_read(rt: HostRuntime, w: Window, got: io::Result<usize>, buf: &[u8]) -> Window {
+    match got {
+        Ok(0) => reached(w, w.from, w.to, true, false),
+        Ok(n) => reached(w, w.from, pump::advance(w.to, n, buf.len()), false, false),
+        Err(error) => {
+            let again = syscall::is_again(rt.stderr(), b"compare", false, error, w.records);
+            reached(w, w.from, w.to, !again, !again)
+        }
     }
-    let n = io::count(got, buf);
-    if n == 0 {
-        return reached(w, w.from, w.to, true, false);
-    }
-    reached(w, w.from, pump::advance(w.to, n, buf.len()), false, false)
 }
 
 // One read, behind the octets at hand.
-fn read_on(w: Window, buf: &mut [u8]) -> Window {
+fn read_on(rt: HostRuntime, mut file: &File, w: Window, buf: &mut [u8]) -> Window {
     let at = pump::within(w.to, buf);
-    let got = libc::read(w.file, &mut buf[at..]);
-    after_read(w, got, &*buf)
+    let got = file.read(&mut buf[at..]);
+    after_read(rt, w, got, &*buf)
 }
 
 // A whole record, 2,064 octets at most, might not be at hand, and there may be more.
@@ -129,7 +126,7 @@ fn wants(w: Window) -> bool {
 
 // More is read, until a whole record is at hand or the file ends. The number of reads is bounded by one
 // that no run uses up.
-pub fn filled(w: Window, buf: &mut [u8]) -> Window {
+pub fn filled(rt: HostRuntime, file: &File, w: Window, buf: &mut [u8]) -> Window {
     if !wants(w) {
         return w;
     }
@@ -138,7 +135,7 @@ pub fn filled(w: Window, buf: &mut [u8]) -> Window {
     let mut x = reached(w, 0, n, false, false);
     let mut turns = u64::MAX;
     while turns > 0 && wants(x) {
-        x = read_on(x, &mut *buf);
+        x = read_on(rt, file, x, &mut *buf);
         turns -= 1;
     }
     x

@@ -5,19 +5,14 @@
 // The pairs and what is said of them were worked out by hand (the .txt beside them).
 #![tactic(auto)]
 
-ghost use Rattle.io.specs.Counts.{IsPrefixLen};
+ghost use Rattle.std.specs.Counts.{IsPrefixLen};
 
 use comparison::Compared;
-use libc::STDOUT_FILENO;
-use stored::say;
+use stored::{say, say_number};
 
-fn say_number(n: u64) {
-    io::print_decimal(STDOUT_FILENO, n);
-}
-
-fn say_spaced(n: u64) {
-    say(b" ");
-    say_number(n);
+fn say_spaced(rt: HostRuntime, n: u64) {
+    say(rt, b" ");
+    say_number(rt, n);
 }
 
 fn entry_at(list: &[u64], i: usize) -> u64 {
@@ -27,10 +22,10 @@ fn entry_at(list: &[u64], i: usize) -> u64 {
     0
 }
 
-fn say_list(list: &[u64], count: usize) {
+fn say_list(rt: HostRuntime, list: &[u64], count: usize) {
     let mut i: usize = 0;
     while i < count {
-        say_spaced(entry_at(list, i));
+        say_spaced(rt, entry_at(list, i));
         i += 1;
     }
 }
@@ -64,15 +59,15 @@ fn compare_within(first: &[u8], second: &[u8], list: &mut [u64], room: usize) ->
 }
 
 // What a list of so many entries is answered.
-fn say_room(first: &[u8], second: &[u8], room: usize) {
+fn say_room(rt: HostRuntime, first: &[u8], second: &[u8], room: usize) {
     let mut list = [7u64; 64];
     let c = compare_within(first, second, &mut list, room);
-    say(b", room ");
-    say_number(room as u64);
-    say(b": ");
-    say_number(c.answer as u64);
+    say(rt, b", room ");
+    say_number(rt, room as u64);
+    say(rt, b": ");
+    say_number(rt, c.answer as u64);
     if !is_unwritten(&list, c.count) {
-        say(b", written behind the entries");
+        say(rt, b", written behind the entries");
     }
 }
 
@@ -83,51 +78,51 @@ fn one_less(n: usize) -> usize {
     n - 1
 }
 
-fn say_rest(first: &[u8], second: &[u8]) {
-    say(b", rest ");
-    say_number(comparison::rest_place(first, second) as u64);
-    say(b" with ");
-    say_number(comparison::rest(first, second).len() as u64);
+fn say_rest(rt: HostRuntime, first: &[u8], second: &[u8]) {
+    say(rt, b", rest ");
+    say_number(rt, comparison::rest_place(first, second) as u64);
+    say(rt, b" with ");
+    say_number(rt, comparison::rest(first, second).len() as u64);
 }
 
-fn run(first: &[u8], second: &[u8]) {
+fn run(rt: HostRuntime, first: &[u8], second: &[u8]) {
     let mut list = [7u64; 64];
     let c = comparison::compare(first, second, &mut list);
-    say(b": ");
-    say_number(c.answer as u64);
-    say_list(&list, c.count);
+    say(rt, b": ");
+    say_number(rt, c.answer as u64);
+    say_list(rt, &list, c.count);
     if !is_unwritten(&list, c.count) {
-        say(b", written behind the entries");
+        say(rt, b", written behind the entries");
     }
-    say_rest(first, second);
-    say_room(first, second, c.count);
-    say_room(first, second, one_less(c.count));
-    say(b"\n");
+    say_rest(rt, first, second);
+    say_room(rt, first, second, c.count);
+    say_room(rt, first, second, one_less(c.count));
+    say(rt, b"\n");
 }
 
 // The pair that argument i names.
-fn run_named(i: usize) {
-    let mut name = io::buffer();
-    let n = os::arg(i, &mut name);
-    say(&name[..n]);
-    let mut first = io::large_buffer();
-    let given = stored::read_named(&mut name, n, b".first", &mut first);
-    let mut second = io::large_buffer();
-    let other = stored::read_named(&mut name, n, b".second", &mut second);
+fn run_named(rt: HostRuntime, i: usize) {
+    let mut name = [0u8; 4_096];
+    let n = arguments::argument_or_none(rt, i, &mut name);
+    say(rt, &name[..n]);
+    let mut first = [0u8; 65_536];
+    let given = stored::read_named(rt, &mut name, n, b".first", &mut first);
+    let mut second = [0u8; 65_536];
+    let other = stored::read_named(rt, &mut name, n, b".second", &mut second);
     if !given.whole || !other.whole {
-        say(b": cannot be read\n");
+        say(rt, b": cannot be read\n");
         return;
     }
     let size = given.size;
     let others = other.size;
-    run(&first[..size], &second[..others]);
+    run(rt, &first[..size], &second[..others]);
 }
 
-fn main() {
-    let count = os::arg_count();
+fn main(rt: HostRuntime) {
+    let count = arguments::count(rt);
     let mut i: usize = 1;
     while i < count {
-        run_named(i);
+        run_named(rt, i);
         i += 1;
     }
 }

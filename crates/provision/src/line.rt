@@ -5,20 +5,20 @@ use capture::{put_decimal, put_words};
 use configuration::ConfigurationAnswer;
 
 // The argument at a place, or what stands for one that is not there.
-fn put_argument(out: &mut [u8], at: usize, i: usize, missing: &[u8]) -> usize {
+fn put_argument(rt: HostRuntime, out: &mut [u8], at: usize, i: usize, missing: &[u8]) -> usize {
     if i == 0 {
         return put_words(out, at, missing);
     }
     let mut word = [0u8; 128];
-    let n = os::arg(i, &mut word);
+    let n = arguments::argument_or_none(rt, i, &mut word);
     put_words(out, at, pump::part(&word, 0, n))
 }
 
 // Whether the argument at a place is copied to the end of the line: the setting and the words that
 // have a place of their own are not.
-fn is_further(w: Words, i: usize) -> bool {
+fn is_further(rt: HostRuntime, w: Words, i: usize) -> bool {
     let mut word = [0u8; 128];
-    let n = os::arg(i, &mut word);
+    let n = arguments::argument_or_none(rt, i, &mut word);
     if does_begin(pump::part(&word, 0, n), b"authentication=") {
         return false;
     }
@@ -28,59 +28,66 @@ fn is_further(w: Words, i: usize) -> bool {
     i != w.own && i != w.expected
 }
 
-fn put_one(out: &mut [u8], at: usize, w: Words, i: usize) -> usize {
-    if is_further(w, i) {
+fn put_one(rt: HostRuntime, out: &mut [u8], at: usize, w: Words, i: usize) -> usize {
+    if is_further(rt, w, i) {
         let a = put_words(&mut *out, at, b" ");
-        return put_argument(out, a, i, b"");
+        return put_argument(rt, out, a, i, b"");
     }
     at
 }
 
 // The words behind the period, as they stand among the arguments.
-fn put_further(out: &mut [u8], at: usize, w: Words) -> usize {
-    let count = os::arg_count();
+fn put_further(rt: HostRuntime, out: &mut [u8], at: usize, w: Words) -> usize {
+    let count = arguments::count(rt);
     let mut next = at;
     let mut i: usize = 1;
     while i < count {
-        next = put_one(&mut *out, next, w, i);
+        next = put_one(rt, &mut *out, next, w, i);
         i += 1;
     }
     next
 }
 
 // Name, label and our discriminator.
-fn put_circuit(out: &mut [u8], at: usize, w: Words, discriminator: u32) -> usize {
-    let a = put_argument(&mut *out, at, w.name, b"?");
+fn put_circuit(rt: HostRuntime, out: &mut [u8], at: usize, w: Words, discriminator: u32) -> usize {
+    let a = put_argument(rt, &mut *out, at, w.name, b"?");
     let b = put_words(&mut *out, a, b" ");
-    let c = put_argument(&mut *out, b, w.label, b"label=?");
+    let c = put_argument(rt, &mut *out, b, w.label, b"label=?");
     let d = put_words(&mut *out, c, b" my=");
     put_decimal(out, d, discriminator as u64)
 }
 
 // The MEP-IDs of both ends, and the period.
-fn put_ends(out: &mut [u8], at: usize, w: Words, period: u32) -> usize {
+fn put_ends(rt: HostRuntime, out: &mut [u8], at: usize, w: Words, period: u32) -> usize {
     let a = put_words(&mut *out, at, b" ");
-    let b = put_argument(&mut *out, a, w.own, b"own=?");
+    let b = put_argument(rt, &mut *out, a, w.own, b"own=?");
     let c = put_words(&mut *out, b, b" ");
-    let d = put_argument(&mut *out, c, w.expected, b"expected=?");
+    let d = put_argument(rt, &mut *out, c, w.expected, b"expected=?");
     let e = put_words(&mut *out, d, b" period=");
     put_decimal(out, e, period as u64)
 }
 
-fn put_session(out: &mut [u8], at: usize, w: Words, discriminator: u32, period: u32) -> usize {
-    let a = put_circuit(&mut *out, at, w, discriminator);
-    let b = put_ends(&mut *out, a, w, period);
-    let c = put_further(&mut *out, b, w);
+fn put_session(
+    rt: HostRuntime,
+    out: &mut [u8],
+    at: usize,
+    w: Words,
+    discriminator: u32,
+    period: u32,
+) -> usize {
+    let a = put_circuit(rt, &mut *out, at, w, discriminator);
+    let b = put_ends(rt, &mut *out, a, w, period);
+    let c = put_further(rt, &mut *out, b, w);
     put_words(out, c, b"\n")
 }
 
-fn put_read(out: &mut [u8], w: Words, discriminator: u32, period: u32) -> usize {
+fn put_read(rt: HostRuntime, out: &mut [u8], w: Words, discriminator: u32, period: u32) -> usize {
     let a = put_words(&mut *out, 0, b"# accepted: discriminator ");
     let b = put_decimal(&mut *out, a, discriminator as u64);
     let c = put_words(&mut *out, b, b", period ");
     let d = put_decimal(&mut *out, c, period as u64);
     let e = put_words(&mut *out, d, b" microseconds\n");
-    put_session(out, e, w, discriminator, period)
+    put_session(rt, out, e, w, discriminator, period)
 }
 
 fn put_reason(out: &mut [u8], at: usize, n: u32, authentication: u16) -> usize {
@@ -122,9 +129,20 @@ fn put_refused(out: &mut [u8], n: u32, authentication: u16) -> usize {
     put_reason(out, c, n, authentication)
 }
 
-pub(crate) fn put_answer(out: &mut [u8], w: Words, a: ConfigurationAnswer) -> usize {
+pub(crate) fn put_answer(
+    rt: HostRuntime,
+    out: &mut [u8],
+    w: Words,
+    a: ConfigurationAnswer,
+) -> usize {
     match a {
-        ConfigurationAnswer::Read(discriminator, period) => put_read(out, w, discriminator, period),
+        ConfigurationAnswer::Read(discriminator, period) => put_read(
+            rt,
+            out,
+            w,
+            discriminator,
+            period,
+        ),
         ConfigurationAnswer::Refused(n) => put_refused(out, n, w.authentication),
     }
 }

@@ -7,9 +7,9 @@ mod line;
 mod words;
 
 // One octet more than a list of entries may have.
-fn answer(w: words::Words, out: &mut [u8]) -> usize {
+fn answer(rt: HostRuntime, w: words::Words, out: &mut [u8]) -> usize {
     let mut buf = [0u8; 131_073];
-    let i = input::read_all(&mut buf);
+    let i = input::read_all(rt, &mut buf);
     if !i.whole {
         return 0;
     }
@@ -19,17 +19,17 @@ fn answer(w: words::Words, out: &mut [u8]) -> usize {
     }
     let list = pump::part(&buf, 0, have);
     let a = configuration::read_configuration(list, w.authentication);
-    line::put_answer(out, w, a)
+    line::put_answer(rt, out, w, a)
 }
 
-fn main() {
+fn main(rt: HostRuntime) {
     let mut out = [0u8; 4_096];
-    let w = words::all_words();
+    let w = words::all_words(rt);
     if w.good {
-        let n = answer(w, &mut out);
-        syscall::write_text(b"provision", &out, n, 0);
+        let n = answer(rt, w, &mut out);
+        syscall::write_text(rt, b"provision", &out, n, 0);
     } else {
         let n = line::put_usage(&mut out);
-        syscall::write_text(b"provision", &out, n, 0);
+        syscall::write_text(rt, b"provision", &out, n, 0);
     }
 }

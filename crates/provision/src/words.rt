@@ -156,25 +156,26 @@ fn take_word(w: Words, i: usize, word: &[u8]) -> Words {
 }
 
 // One argument more. One that does not fit its buffer is no word.
-fn take_argument(w: Words, i: usize) -> Words {
+fn take_argument(rt: HostRuntime, w: Words, i: usize) -> Words {
     let mut word = [0u8; 128];
-    let n = os::arg(i, &mut word);
-    if os::errno() != 0 {
-        let mut r = w;
-        r.good = false;
-        return r;
+    match arguments::argument(rt, i, &mut word) {
+        Some(n) => take_word(w, i, pump::part(&word, 0, n)),
+        None => {
+            let mut r = w;
+            r.good = false;
+            r
+        }
     }
-    take_word(w, i, pump::part(&word, 0, n))
 }
 
 // All arguments behind the program's name, no more than 16.
-pub(crate) fn all_words() -> Words {
+pub(crate) fn all_words(rt: HostRuntime) -> Words {
     let mut w = no_words();
-    let count = os::arg_count();
+    let count = arguments::count(rt);
     w.good = count <= 17;
     let mut i: usize = 1;
     while i < count {
-        w = take_argument(w, i);
+        w = take_argument(rt, w, i);
         i += 1;
     }
     w

@@ -50,7 +50,7 @@ pub(crate) fn text_of(q: Question, capture: &[u8], step: usize, out: &mut [u8]) 
     if !inquiry::is_asked(q) {
         return inquiry::put_usage(out, 0);
     }
-    let mut buf = io::large_buffer();
+    let mut buf = [0u8; 65_536];
     let mut kept = [0u8; 2048];
     let s = searched(q, capture, step, &mut buf, &mut kept);
     inquiry::put_text(out, s, &buf, &kept, inquiry::thing_of(q))

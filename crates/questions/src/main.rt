@@ -17,20 +17,27 @@ struct Held {
     good: bool,
 }
 
-fn say_question(line: &[u8], text: &[u8]) {
-    say(b": ");
-    say(line);
-    stored::say_differs(text);
+fn say_question(rt: HostRuntime, line: &[u8], text: &[u8]) {
+    say(rt, b": ");
+    say(rt, line);
+    stored::say_differs(rt, text);
 }
 
 // A question of a capture that comes in steps of so many octets. Its text is the next of the answers.
-fn hold_in_steps(line: &[u8], capture: &[u8], step: usize, answers: &[u8], at: usize) -> Held {
+fn hold_in_steps(
+    rt: HostRuntime,
+    line: &[u8],
+    capture: &[u8],
+    step: usize,
+    answers: &[u8],
+    at: usize,
+) -> Held {
     let mut out = [0u8; 1024];
     let n = asking::text_of(asking::question_of(line), capture, step, &mut out);
     let text = octets::part(&out, 0, n);
-    let good = check::same(text, octets::part(answers, at, text.len()));
+    let good = text == octets::part(answers, at, text.len());
     if !good {
-        say_question(line, text);
+        say_question(rt, line, text);
     }
     Held {
         at: pump::advance(at, text.len(), answers.len()),
@@ -39,25 +46,25 @@ fn hold_in_steps(line: &[u8], capture: &[u8], step: usize, answers: &[u8], at: u
 }
 
 // Both ways; nothing more once a text differs.
-fn hold(h: Held, line: &[u8], capture: &[u8], answers: &[u8]) -> Held {
+fn hold(rt: HostRuntime, h: Held, line: &[u8], capture: &[u8], answers: &[u8]) -> Held {
     if !h.good {
         return h;
     }
-    let whole = hold_in_steps(line, capture, capture.len(), answers, h.at);
+    let whole = hold_in_steps(rt, line, capture, capture.len(), answers, h.at);
     if !whole.good {
         return whole;
     }
-    hold_in_steps(line, capture, 7, answers, h.at)
+    hold_in_steps(rt, line, capture, 7, answers, h.at)
 }
 
 // Every line of the questions.
-fn hold_all(questions: &[u8], capture: &[u8], answers: &[u8]) -> Held {
+fn hold_all(rt: HostRuntime, questions: &[u8], capture: &[u8], answers: &[u8]) -> Held {
     let mut h = Held { at: 0, good: true };
     let mut from: usize = 0;
     let mut i: usize = 0;
     while i < questions.len() {
         if questions[i] == b'\n' {
-            h = hold(h, pump::part(questions, from, i), capture, answers);
+            h = hold(rt, h, pump::part(questions, from, i), capture, answers);
             from = i + 1;
         }
         i += 1;
@@ -66,44 +73,44 @@ fn hold_all(questions: &[u8], capture: &[u8], answers: &[u8]) -> Held {
 }
 
 // No answer is left over either.
-fn run(questions: &[u8], capture: &[u8], answers: &[u8]) {
-    let h = hold_all(questions, capture, answers);
+fn run(rt: HostRuntime, questions: &[u8], capture: &[u8], answers: &[u8]) {
+    let h = hold_all(rt, questions, capture, answers);
     if !h.good {
         return;
     }
     if h.at < answers.len() {
-        say(b": answers are left\n");
+        say(rt, b": answers are left\n");
         return;
     }
-    stored::say_holds(stored::line_count(questions), b" questions");
+    stored::say_holds(rt, stored::line_count(questions), b" questions");
 }
 
 // The capture that argument i names.
-fn run_named(i: usize) {
-    let mut name = io::buffer();
-    let n = os::arg(i, &mut name);
-    say(&name[..n]);
-    let mut capture = io::large_buffer();
-    let given = stored::read_named(&mut name, n, b".capture", &mut capture);
-    let mut questions = io::large_buffer();
-    let asked = stored::read_named(&mut name, n, b".questions", &mut questions);
-    let mut answers = io::large_buffer();
-    let wanted = stored::read_named(&mut name, n, b".answers", &mut answers);
+fn run_named(rt: HostRuntime, i: usize) {
+    let mut name = [0u8; 4_096];
+    let n = arguments::argument_or_none(rt, i, &mut name);
+    say(rt, &name[..n]);
+    let mut capture = [0u8; 65_536];
+    let given = stored::read_named(rt, &mut name, n, b".capture", &mut capture);
+    let mut questions = [0u8; 65_536];
+    let asked = stored::read_named(rt, &mut name, n, b".questions", &mut questions);
+    let mut answers = [0u8; 65_536];
+    let wanted = stored::read_named(rt, &mut name, n, b".answers", &mut answers);
     if !given.whole || !asked.whole || !wanted.whole {
-        say(b": cannot be read\n");
+        say(rt, b": cannot be read\n");
         return;
     }
     let size = given.size;
     let lines = asked.size;
     let texts = wanted.size;
-    run(&questions[..lines], &capture[..size], &answers[..texts]);
+    run(rt, &questions[..lines], &capture[..size], &answers[..texts]);
 }
 
-fn main() {
-    let count = os::arg_count();
+fn main(rt: HostRuntime) {
+    let count = arguments::count(rt);
     let mut i: usize = 1;
     while i < count {
-        run_named(i);
+        run_named(rt, i);
         i += 1;
     }
 }

@@ -2,9 +2,15 @@
 // is answered that is one octet too short, and one that just fits.
 #![tactic(auto)]
 
-ghost use Rattle.io.specs.Counts.{IsPrefixLen};
+ghost use Rattle.std.specs.Prelude.{◌≤◌, length};
+ghost use Rattle.std.specs.Counts.{IsPrefixLen};
 
-use libc::{STDIN_FILENO, STDOUT_FILENO};
+use std::io::Read;
+
+// What cannot be written is left out.
+fn say(rt: HostRuntime, text: &[u8]) {
+    let _ = Print::write_all(&rt, text);
+}
 
 // At most n of buf's octets.
 fn within(n: usize, buf: &[u8]) -> usize
@@ -17,13 +23,13 @@ fn within(n: usize, buf: &[u8]) -> usize
 }
 
 // Answer and count for a buffer of so many octets.
-fn tell(capture: &[u8], out: &mut [u8], room: usize) {
+fn tell(rt: HostRuntime, capture: &[u8], out: &mut [u8], room: usize) {
     let n = within(room, out);
     let r = text::run(capture, &mut out[..n]);
-    io::print_decimal(STDOUT_FILENO, r.answer as u64);
-    io::write_all(STDOUT_FILENO, b" ");
-    io::print_decimal(STDOUT_FILENO, r.written as u64);
-    io::write_all(STDOUT_FILENO, b"\n");
+    let _ = rt.print(r.answer);
+    say(rt, b" ");
+    let _ = rt.print(r.written);
+    say(rt, b"\n");
 }
 
 fn one_less(n: usize) -> usize {
@@ -33,13 +39,38 @@ fn one_less(n: usize) -> usize {
     n - 1
 }
 
-fn main() {
-    let mut buf = io::large_buffer();
-    let mut out = io::large_buffer();
-    let n = io::read_full(STDIN_FILENO, &mut buf);
+// One read of standard input. One that fails brings nothing.
+fn read_on(rt: HostRuntime, buf: &mut [u8]) -> usize
+    ensures { result ≤ length buf.new }
+{
+    match rt.stdin().read(buf) {
+        Ok(n) => n,
+        Err(_) => 0,
+    }
+}
+
+// Read by read, until the buffer is full or a read brings nothing.
+fn read_full(rt: HostRuntime, buf: &mut [u8]) -> usize
+    ensures { IsPrefixLen result buf.new }
+{
+    let mut done: usize = 0;
+    while done < buf.len() {
+        let n = read_on(rt, &mut buf[done..]);
+        if n == 0 {
+            break;
+        }
+        done += n;
+    }
+    done
+}
+
+fn main(rt: HostRuntime) {
+    let mut buf = [0u8; 65_536];
+    let mut out = [0u8; 65_536];
+    let n = read_full(rt, &mut buf);
     let r = text::run(&buf[..n], &mut out);
     let w = within(r.written, &out);
-    io::write_all(STDOUT_FILENO, &out[..w]);
-    tell(&buf[..n], &mut out, one_less(w));
-    tell(&buf[..n], &mut out, w);
+    say(rt, &out[..w]);
+    tell(rt, &buf[..n], &mut out, one_less(w));
+    tell(rt, &buf[..n], &mut out, w);
 }

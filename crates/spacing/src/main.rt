@@ -4,7 +4,7 @@
 #![tactic(auto)]
 
 ghost use Rattle.std.specs.Prelude.{◌≡◌, false, ◌≤◌, length};
-ghost use Rattle.libc.specs.Io.{Moved};
+ghost use Rattle.std.specs.Io.{ReadsAtMost};
 ghost use Rattle.capture.specs.Typing.{typed};
 ghost use Rattle.gauge.specs.Gauging.{text_of};
 ghost use Rattle.spacing.specs.Reads.{looking, AfterRead, OneRead, Reached};
@@ -12,8 +12,9 @@ ghost use Rattle.spacing.specs.Labels.{is_label};
 
 use gauge::Gauge;
 use inquiry::Question;
-use libc::STDIN_FILENO;
 use octets::both;
+use std::io;
+use std::io::Read;
 
 // What is held after a read, whether another one is to be made, and where not whether the numbers are
 // known.
@@ -26,22 +27,21 @@ struct Looked {
 
 // ---- the label
 // One argument more, read as `why` reads its own. One that does not fit its buffer is no word.
-fn take_argument(q: Question, i: usize) -> Question {
+fn take_argument(rt: HostRuntime, q: Question, i: usize) -> Question {
     let mut word = [0u8; 64];
-    let n = os::arg(i, &mut word);
-    if os::errno() != 0 {
-        return inquiry::take_word(q, b"");
+    match arguments::argument(rt, i, &mut word) {
+        Some(n) => inquiry::take_word(q, pump::part(&word, 0, n)),
+        None => inquiry::take_word(q, b""),
     }
-    inquiry::take_word(q, pump::part(&word, 0, n))
 }
 
 // All arguments behind the program's name.
-fn words() -> Question {
+fn words(rt: HostRuntime) -> Question {
     let mut q = inquiry::no_question();
-    let count = os::arg_count();
+    let count = arguments::count(rt);
     let mut i: usize = 1;
     while i < count {
-        q = take_argument(q, i);
+        q = take_argument(rt, q, i);
         i += 1;
     }
     q
@@ -70,35 +70,36 @@ fn records_of(g: Gauge) -> u64 {
 }
 
 // What one read answered. None is the end of the input.
-fn after_read(g: Gauge, got: isize, buf: &mut [u8]) -> Looked
-    requires { Moved (length buf.old) got }
+fn after_read(rt: HostRuntime, g: Gauge, got: io::Result<usize>, buf: &mut [u8]) -> Looked
+    requires { ReadsAtMost got buf.old }
     ensures { AfterRead (record { gauge = g; buf = buf.old }) got result buf.new }
 {
-    if got < 0 {
-        let go = syscall::is_again(b"spacing", false, os::errno(), records_of(g));
-        return looks(g, go, false);
+    match got {
+        Ok(0) => looks(g, false, true),
+        Ok(n) => {
+            let next = gauge::got(g, n, buf);
+            looks(next, !next.over, next.over)
+        }
+        Err(error) => {
+            let go = syscall::is_again(rt.stderr(), b"spacing", false, error, records_of(g));
+            looks(g, go, false)
+        }
     }
-    let n = io::count(got, &*buf);
-    if n == 0 {
-        return looks(g, false, true);
-    }
-    let next = gauge::got(g, n, buf);
-    looks(next, !next.over, next.over)
 }
 
 // One read, behind the octets that are there.
-fn read_on(g: Gauge, buf: &mut [u8]) -> Looked
+fn read_on(rt: HostRuntime, g: Gauge, buf: &mut [u8]) -> Looked
     requires { g.over ≡ false }
     ensures { OneRead (record { gauge = g; buf = buf.old }) result buf.new }
 {
     let at = pump::within(g.have, buf);
-    let got = libc::read(STDIN_FILENO, &mut buf[at..]);
-    after_read(g, got, buf)
+    let got = rt.stdin().read(&mut buf[at..]);
+    after_read(rt, g, got, buf)
 }
 
 // Read by read, until the numbers are known or a read fails. The number of reads is bounded by one
 // that no run uses up.
-fn run(label: u32, buf: &mut [u8]) -> Looked
+fn run(rt: HostRuntime, label: u32, buf: &mut [u8]) -> Looked
     requires { 2064 ≤ length buf.old }
     ensures { Reached label (looking result buf.new) }
 {
@@ -107,7 +108,7 @@ fn run(label: u32, buf: &mut [u8]) -> Looked
     let mut known = false;
     let mut turns = u64::MAX;
     while turns > 0 && go {
-        let x = read_on(g, &mut *buf);
+        let x = read_on(rt, g, &mut *buf);
         g = x.gauge;
         go = x.go;
         known = x.known;
@@ -124,24 +125,24 @@ fn put_line(out: &mut [u8], g: Gauge) -> usize
     gauge::put_text(out, g)
 }
 
-fn answer(label: u32) {
+fn answer(rt: HostRuntime, label: u32) {
     let mut buf = [0u8; 262_144];
     let mut out = [0u8; 128];
-    let x = run(label, &mut buf);
+    let x = run(rt, label, &mut buf);
     if x.known {
         let g = x.gauge;
         let n = put_line(&mut out, g);
-        syscall::write_text(b"spacing", &out, n, records_of(g));
+        syscall::write_text(rt, b"spacing", &out, n, records_of(g));
     }
 }
 
-fn main() {
-    let q = words();
+fn main(rt: HostRuntime) {
+    let q = words(rt);
     if is_label(q) {
-        answer(q.label);
+        answer(rt, q.label);
     } else {
         let mut out = [0u8; 128];
         let n = gauge::put_usage(&mut out, 0);
-        syscall::write_text(b"spacing", &out, n, 0);
+        syscall::write_text(rt, b"spacing", &out, n, 0);
     }
 }

@@ -60,7 +60,7 @@ fn gauged(label: u32, capture: &[u8], step: usize, buf: &mut [u8]) -> Gauge {
 
 // The line for a label.
 pub(crate) fn line_of(label: u32, capture: &[u8], step: usize, out: &mut [u8]) -> usize {
-    let mut buf = io::large_buffer();
+    let mut buf = [0u8; 65_536];
     let g = gauged(label, capture, step, &mut buf);
     gauge::put_text(out, g)
 }

@@ -6,23 +6,27 @@ mod files;
 mod texts;
 
 pub use files::{Content, read_named};
-use libc::STDOUT_FILENO;
 pub use texts::{further, line_count, put_text};
 
-pub fn say(text: &[u8]) {
-    io::write_all(STDOUT_FILENO, text);
+// What cannot be written is left out.
+pub fn say(rt: HostRuntime, text: &[u8]) {
+    let _ = Print::write_all(&rt, text);
+}
+
+pub fn say_number(rt: HostRuntime, number: u64) {
+    let _ = rt.print(number);
 }
 
 // A text that is not the one expected.
-pub fn say_differs(text: &[u8]) {
-    say(b": not as expected\n");
-    say(text);
+pub fn say_differs(rt: HostRuntime, text: &[u8]) {
+    say(rt, b": not as expected\n");
+    say(rt, text);
 }
 
 // So many of something are as expected.
-pub fn say_holds(count: u64, what: &[u8]) {
-    say(b": ");
-    io::print_decimal(STDOUT_FILENO, count);
-    say(what);
-    say(b", as expected\n");
+pub fn say_holds(rt: HostRuntime, count: u64, what: &[u8]) {
+    say(rt, b": ");
+    say_number(rt, count);
+    say(rt, what);
+    say(rt, b", as expected\n");
 }

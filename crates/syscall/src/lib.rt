@@ -3,24 +3,28 @@
 
 mod writing;
 
-use libc::{EINTR, STDERR_FILENO};
+use std::io::{Error, ErrorKind, Stderr, Write};
 pub use writing::write_text;
 
-fn error_number(error: i32) -> u64 {
-    if error < 0 {
+// Its number; 0 for an error that has none.
+fn error_number(error: Error) -> u64 {
+    let Some(code) = error.raw_os_error() else {
+        return 0;
+    };
+    if code < 0 {
         return 0;
     }
-    error as u64
+    code as u64
 }
 
 // A call that was only interrupted is made again. Of any other that failed standard error is told:
 // the program, the call, its error number and the number of the last record that was taken.
-pub fn is_again(name: &[u8], writing: bool, error: i32, number: u64) -> bool {
-    if error == EINTR {
+pub fn is_again(mut to: Stderr, name: &[u8], writing: bool, error: Error, number: u64) -> bool {
+    if error.kind() == ErrorKind::Interrupted {
         return true;
     }
     let mut line = [0u8; 128];
     let n = pump::put_failure(&mut line, name, writing, error_number(error), number);
-    io::write_all(STDERR_FILENO, pump::part(&line, 0, n));
+    let _ = Write::write_all(&mut to, pump::part(&line, 0, n));
     false
 }

@@ -5,13 +5,14 @@
 #![tactic(auto)]
 
 ghost use Rattle.std.specs.Prelude.{ℕ, ◌≡◌, true, false, List, length};
-ghost use Rattle.libc.specs.Io.{Moved};
+ghost use Rattle.std.specs.Io.{ReadsAtMost, WritesAtMost};
 ghost use Rattle.pump.specs.declared.Wanted.TheVariants.{Read, Write};
 ghost use Rattle.pump.specs.Pumping.{wants_of};
 ghost use Rattle.watch.specs.Calls.{Failed, AfterRead, AfterWrite, CallMade, Reached};
 
-use libc::{STDIN_FILENO, STDOUT_FILENO};
 use pump::{Pump, Wanted};
+use std::io;
+use std::io::{Error, ErrorKind, Read, Write};
 
 // The core after a system call, whether the call moved anything or found the end, and whether it
 // goes on.
@@ -44,83 +45,80 @@ fn stayed(core: Pump, go: bool) -> Called
 
 // A call that was only interrupted is made again, and behind any other that failed nothing more is
 // done.
-fn failed(core: Pump, writing: bool, error: i32) -> Called
+fn failed(rt: HostRuntime, core: Pump, writing: bool, error: Error) -> Called
     ensures { Failed core result }
 {
     let number = core.table.fed.number;
-    stayed(core, syscall::is_again(b"watch", writing, error, number))
+    let go = syscall::is_again(rt.stderr(), b"watch", writing, error, number);
+    stayed(core, go)
 }
 
 // What one read answered. None is the end of the input.
-fn after_read(core: Pump, got: isize, buf: &[u8]) -> Called
-    requires { Moved (length buf.now) got }
+fn after_read(rt: HostRuntime, core: Pump, got: io::Result<usize>, buf: &[u8]) -> Called
+    requires { ReadsAtMost got buf.now }
     ensures { AfterRead core (length buf.now) got result }
 {
-    if got < 0 {
-        return failed(core, false, os::errno());
+    match got {
+        Ok(n) => moved(pump::got(core, n, buf)),
+        Err(error) => failed(rt, core, false, error),
     }
-    let n = io::count(got, buf);
-    moved(pump::got(core, n, buf))
 }
 
 // What one write answered. One that takes nothing gets no further: it has failed, with no error
 // number.
-fn after_write(core: Pump, took: isize, part: &[u8]) -> Called
-    requires { Moved (length part.now) took }
+fn after_write(rt: HostRuntime, core: Pump, took: io::Result<usize>, part: &[u8]) -> Called
+    requires { WritesAtMost took part.now }
     ensures { AfterWrite core took result }
 {
-    if took < 0 {
-        return failed(core, true, os::errno());
+    match took {
+        Ok(0) => failed(rt, core, true, Error::from(ErrorKind::WriteZero)),
+        Ok(n) => moved(pump::took(core, n)),
+        Err(error) => failed(rt, core, true, error),
     }
-    if took == 0 {
-        return failed(core, true, 0);
-    }
-    let n = io::count(took, part);
-    moved(pump::took(core, n))
 }
 
 // One read, behind the octets that are there.
-fn read_on(core: Pump, buf: &mut [u8]) -> Called
+fn read_on(rt: HostRuntime, core: Pump, buf: &mut [u8]) -> Called
     requires { wants_of core ≡ Read }
     ensures { (out : List ℕ) → CallMade (record { pump = core; buf = buf.old; out = out }) result buf.new }
 {
     let at = pump::within(core.have, buf);
-    let got = libc::read(STDIN_FILENO, &mut buf[at..]);
-    after_read(core, got, buf)
+    let got = rt.stdin().read(&mut buf[at..]);
+    after_read(rt, core, got, buf)
 }
 
 // One write, of what is still to be written.
-fn write_on(core: Pump, out: &[u8]) -> Called
+fn write_on(rt: HostRuntime, core: Pump, out: &[u8]) -> Called
     requires { wants_of core ≡ Write }
     ensures { (buf : List ℕ) → CallMade (record { pump = core; buf = buf; out = out.now }) result buf }
 {
     let part = pump::pending(core, out);
-    let took = libc::write(STDOUT_FILENO, part);
-    after_write(core, took, part)
+    let took = rt.stdout().write(part);
+    after_write(rt, core, took, part)
 }
 
 // The system call that is wanted.
-fn call(core: Pump, buf: &mut [u8], out: &[u8]) -> Called
+fn call(rt: HostRuntime, core: Pump, buf: &mut [u8], out: &[u8]) -> Called
     ensures { CallMade (record { pump = core; buf = buf.old; out = out.now }) result buf.new }
 {
     let wanted = pump::wants(core);
     match wanted {
-        Wanted::Read => read_on(core, buf),
-        Wanted::Write => write_on(core, out),
+        Wanted::Read => read_on(rt, core, buf),
+        Wanted::Write => write_on(rt, core, out),
         Wanted::Nothing => stayed(core, false),
     }
 }
 
 // Call by call, with the core's turn behind each that moved something, until nothing more is wanted
 // or a call fails. The number of calls is bounded by one that no run uses up.
-fn run(buf: &mut [u8], out: &mut [u8]) -> Pump
+fn run(rt: HostRuntime, buf: &mut [u8], out: &mut [u8]) -> Pump
     ensures { Reached buf.old out.old (record { pump = result; buf = buf.new; out = out.new }) }
 {
     let mut core = pump::start();
     let mut go = true;
     let mut turns = u64::MAX;
     while turns > 0 && go {
-        let called = call(core, &mut *buf, &*out);
+        let called = call(rt, core, &mut *buf, &*out);
         core = called.core;
         go = called.go;
         if called.moved {
@@ -131,8 +129,8 @@ fn run(buf: &mut [u8], out: &mut [u8]) -> Pump
     core
 }
 
-fn main() {
+fn main(rt: HostRuntime) {
     let mut buf = [0u8; 262_144];
     let mut out = [0u8; 262_144];
-    run(&mut buf, &mut out);
+    run(rt, &mut buf, &mut out);
 }

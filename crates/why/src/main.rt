@@ -4,14 +4,15 @@
 #![tactic(auto)]
 
 ghost use Rattle.std.specs.Prelude.{◌≡◌, false, ◌≤◌, length};
-ghost use Rattle.libc.specs.Io.{Moved};
+ghost use Rattle.std.specs.Io.{ReadsAtMost};
 ghost use Rattle.capture.specs.Typing.{typed};
 ghost use Rattle.inquiry.specs.Searching.{ended_of, text_of};
 ghost use Rattle.why.specs.Reads.{looking, AfterRead, OneRead, Reached};
 
 use cause::Thing;
 use inquiry::{Question, Search};
-use libc::STDIN_FILENO;
+use std::io;
+use std::io::Read;
 
 // The search after a read, whether another one is to be made, and where not whether the answer is
 // known.
@@ -24,22 +25,21 @@ struct Looked {
 
 // ---- the question
 // One argument more. One that does not fit its buffer is no word of a question.
-fn take_argument(q: Question, i: usize) -> Question {
+fn take_argument(rt: HostRuntime, q: Question, i: usize) -> Question {
     let mut word = [0u8; 64];
-    let n = os::arg(i, &mut word);
-    if os::errno() != 0 {
-        return inquiry::take_word(q, b"");
+    match arguments::argument(rt, i, &mut word) {
+        Some(n) => inquiry::take_word(q, pump::part(&word, 0, n)),
+        None => inquiry::take_word(q, b""),
     }
-    inquiry::take_word(q, pump::part(&word, 0, n))
 }
 
 // All arguments behind the program's name.
-fn words() -> Question {
+fn words(rt: HostRuntime) -> Question {
     let mut q = inquiry::no_question();
-    let count = os::arg_count();
+    let count = arguments::count(rt);
     let mut i: usize = 1;
     while i < count {
-        q = take_argument(q, i);
+        q = take_argument(rt, q, i);
         i += 1;
     }
     q
@@ -61,35 +61,42 @@ fn records_of(s: Search) -> u64 {
 }
 
 // What one read answered. None is the end of the input.
-fn after_read(s: Search, got: isize, buf: &mut [u8], kept: &mut [u8]) -> Looked
-    requires { Moved (length buf.old) got }
+fn after_read(
+    rt: HostRuntime,
+    s: Search,
+    got: io::Result<usize>,
+    buf: &mut [u8],
+    kept: &mut [u8],
+) -> Looked
+    requires { ReadsAtMost got buf.old }
     ensures { AfterRead (record { search = s; buf = buf.old; kept = kept.old }) got result buf.new kept.new }
 {
-    if got < 0 {
-        let go = syscall::is_again(b"why", false, os::errno(), records_of(s));
-        return looks(s, go, false);
+    match got {
+        Ok(0) => looks(s, false, true),
+        Ok(n) => {
+            let next = inquiry::got(s, n, buf, kept);
+            looks(next, !next.over, next.over)
+        }
+        Err(error) => {
+            let go = syscall::is_again(rt.stderr(), b"why", false, error, records_of(s));
+            looks(s, go, false)
+        }
     }
-    let n = io::count(got, &*buf);
-    if n == 0 {
-        return looks(s, false, true);
-    }
-    let next = inquiry::got(s, n, buf, kept);
-    looks(next, !next.over, next.over)
 }
 
 // One read, behind the octets that are there.
-fn read_on(s: Search, buf: &mut [u8], kept: &mut [u8]) -> Looked
+fn read_on(rt: HostRuntime, s: Search, buf: &mut [u8], kept: &mut [u8]) -> Looked
     requires { s.over ≡ false }
     ensures { OneRead (record { search = s; buf = buf.old; kept = kept.old }) result buf.new kept.new }
 {
     let at = pump::within(s.have, buf);
-    let got = libc::read(STDIN_FILENO, &mut buf[at..]);
-    after_read(s, got, buf, kept)
+    let got = rt.stdin().read(&mut buf[at..]);
+    after_read(rt, s, got, buf, kept)
 }
 
 // Read by read, until the answer is known or a read fails. The number of reads is bounded by one
 // that no run uses up.
-fn run(label: u32, upto: u64, buf: &mut [u8], kept: &mut [u8]) -> Looked
+fn run(rt: HostRuntime, label: u32, upto: u64, buf: &mut [u8], kept: &mut [u8]) -> Looked
     requires { 2064 ≤ length buf.old }
     ensures { Reached label upto kept.old (looking result buf.new kept.new) }
 {
@@ -98,7 +105,7 @@ fn run(label: u32, upto: u64, buf: &mut [u8], kept: &mut [u8]) -> Looked
     let mut known = false;
     let mut turns = u64::MAX;
     while turns > 0 && go {
-        let x = read_on(s, &mut *buf, &mut *kept);
+        let x = read_on(rt, s, &mut *buf, &mut *kept);
         s = x.search;
         go = x.go;
         known = x.known;
@@ -115,25 +122,25 @@ fn put_answer(out: &mut [u8], s: Search, buf: &[u8], kept: &[u8], thing: Thing) 
     inquiry::put_text(out, inquiry::ended(s), buf, kept, thing)
 }
 
-fn answer(q: Question) {
+fn answer(rt: HostRuntime, q: Question) {
     let mut buf = [0u8; 262_144];
     let mut kept = [0u8; 2_048];
     let mut out = [0u8; 1_024];
-    let x = run(q.label, q.upto, &mut buf, &mut kept);
+    let x = run(rt, q.label, q.upto, &mut buf, &mut kept);
     if x.known {
         let s = x.search;
         let n = put_answer(&mut out, s, &buf, &kept, inquiry::thing_of(q));
-        syscall::write_text(b"why", &out, n, records_of(s));
+        syscall::write_text(rt, b"why", &out, n, records_of(s));
     }
 }
 
-fn main() {
-    let q = words();
+fn main(rt: HostRuntime) {
+    let q = words(rt);
     if inquiry::is_asked(q) {
-        answer(q);
+        answer(rt, q);
     } else {
         let mut out = [0u8; 128];
         let n = inquiry::put_usage(&mut out, 0);
-        syscall::write_text(b"why", &out, n, 0);
+        syscall::write_text(rt, b"why", &out, n, 0);
     }
 }
