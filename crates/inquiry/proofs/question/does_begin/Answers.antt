@@ -14,16 +14,13 @@ pub loop-i-init : goal.loop-i-init
 loop-i-init c = (omega arith, refl)
 
 pub returns-then-w-i : goal.returns-then-w-i
-returns-then-w-i c =
-    let a = c.args in
+returns-then-w-i c = let a = c.args in
     sym (c.loop-i.invariant.1 ∙ begins-off c.loop-i.i a.front.now a.w.now (omega arith) (omega arith) c.if-w-i.true)
 
 pub loop-i-preserved : goal.loop-i-preserved
-loop-i-preserved c =
-    let a = c.args in
+loop-i-preserved c = let a = c.args in
     (omega arith, c.loop-i.invariant.1 ∙ begins-on c.loop-i.i a.front.now a.w.now (omega arith) (omega arith) c.if-w-i.false)
 
 pub returns : goal.returns
-returns c =
-    let a = c.args in
+returns c = let a = c.args in
     sym (c.loop-i.invariant.1 ∙ begins-all c.loop-i.i a.front.now (drop c.loop-i.i a.w.now) c.loop-i-test.false)

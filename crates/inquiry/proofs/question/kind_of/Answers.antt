@@ -5,32 +5,24 @@ use Rattle.inquiry.proofs.question.kind_of.Goals as goal
 
 pub returns-then-is_word : goal.returns-then-is_word
 unfolding kind_of
-returns-then-is_word c =
-    rw (sym c.is_Is_word.ensures ∙ c.if-is_word.true)
+returns-then-is_word c = rw (sym c.is_word.ensures ∙ c.if-is_word.true)
 
 pub returns-then-is_word-2 : goal.returns-then-is_word-2
 unfolding kind_of
-returns-then-is_word-2 c =
-    rw (sym c.is_Is_word.ensures ∙ c.if-is_word.false, sym c.is_word-2.ensures ∙ c.if-is_word-2.true)
+returns-then-is_word-2 c = rw (sym c.is_word.ensures ∙ c.if-is_word.false, sym c.is_word-2.ensures ∙ c.if-is_word-2.true)
 
 pub returns-then-is_word-3 : goal.returns-then-is_word-3
 unfolding kind_of
-returns-then-is_word-3 c =
-    rw (sym c.is_Is_word.ensures ∙ c.if-is_word.false, sym c.is_word-2.ensures ∙ c.if-is_word-2.false, sym c.is_word-3.ensures ∙ c.if-is_word-3.true)
+returns-then-is_word-3 c = rw (sym c.is_word.ensures ∙ c.if-is_word.false, sym c.is_word-2.ensures ∙ c.if-is_word-2.false, sym c.is_word-3.ensures ∙ c.if-is_word-3.true)
 
 pub returns-then-is_word-4 : goal.returns-then-is_word-4
 unfolding kind_of
-returns-then-is_word-4 c =
-    rw (sym c.is_Is_word.ensures ∙ c.if-is_word.false, sym c.is_word-2.ensures ∙ c.if-is_word-2.false, sym c.is_word-3.ensures ∙ c.if-is_word-3.false, sym c.is_word-4.ensures ∙ c.if-is_word-4.true)
+returns-then-is_word-4 c = rw (sym c.is_word.ensures ∙ c.if-is_word.false, sym c.is_word-2.ensures ∙ c.if-is_word-2.false, sym c.is_word-3.ensures ∙ c.if-is_word-3.false, sym c.is_word-4.ensures ∙ c.if-is_word-4.true)
 
 pub returns-then-is_word-5 : goal.returns-then-is_word-5
 unfolding kind_of
-returns-then-is_word-5 c =
-    let e1 = e2 in
-    rw (sym e1.is_Is_word.ensures ∙ e1.if1.false, sym c.is_word-2.ensures ∙ c.if-is_word-2.false, sym c.is_word-3.ensures ∙ c.if-is_word-3.false, sym c.is_word-4.ensures ∙ c.if-is_word-4.false, sym c.is_word-5.ensures ∙ c.if-is_word-5.true)
+returns-then-is_word-5 c = rw (sym c.is_word.ensures ∙ c.if-is_word.false, sym c.is_word-2.ensures ∙ c.if-is_word-2.false, sym c.is_word-3.ensures ∙ c.if-is_word-3.false, sym c.is_word-4.ensures ∙ c.if-is_word-4.false, sym c.is_word-5.ensures ∙ c.if-is_word-5.true)
 
 pub returns : goal.returns
 unfolding kind_of
-returns c =
-    let e1 = e2 in
-    rw (sym e1.is_Is_word.ensures ∙ e1.if1.false, sym c.is_word-2.ensures ∙ c.if-is_word-2.false, sym c.is_word-3.ensures ∙ c.if-is_word-3.false, sym c.is_word-4.ensures ∙ c.if-is_word-4.false, sym c.is_word-5.ensures ∙ c.if-is_word-5.false)
+returns c = rw (sym c.is_word.ensures ∙ c.if-is_word.false, sym c.is_word-2.ensures ∙ c.if-is_word-2.false, sym c.is_word-3.ensures ∙ c.if-is_word-3.false, sym c.is_word-4.ensures ∙ c.if-is_word-4.false, sym c.is_word-5.ensures ∙ c.if-is_word-5.false)

@@ -5,6 +5,4 @@ use Rattle.inquiry.proofs.question.take_global.Goals as goal
 
 pub returns : goal.returns
 unfolding global_taken
-returns c =
-    let n = f in
-    c.only_if.ensures ∙ rw (c.with_thing.ensures, c.with_global.ensures, c.both-test.ensures, c.is_free.ensures, ← n.small-in.ensures)
+returns c = c.only_if.ensures ∙ rw (c.with_thing.ensures, c.with_global.ensures, c.both-test.ensures, c.is_free.ensures, ← c.small_in-n.ensures)

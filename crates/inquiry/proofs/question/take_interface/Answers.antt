@@ -7,18 +7,10 @@ use Rattle.inquiry.proofs.question.take_interface.Goals as goal
 
 pub returns : goal.returns
 unfolding interface_taken
-returns c =
-    let b = f in
-    let i = b in
-    let p = i in
-    let o = p in
-    let n = o in
-    let u = n in
-    let at = u in
-    let s = at.args.s.now in
-    let a = n.small-in.result in
-    let z = i.small-in2.result in
-    let node : ◌≡◌ {A = Number} (record { value = a.value; good = a.good }) (small (take (slash_at s) s)) = n.small-in.ensures ∙ rw (u.part.ensures, at.slash-at.ensures) in
+returns c = let s = c.args.s.now in
+    let a = c.small_in-node.result in
+    let z = c.small_in-interface.result in
+    let node : ◌≡◌ {A = Number} (record { value = a.value; good = a.good }) (small (take (slash_at s) s)) = c.small_in-node.ensures ∙ rw (c.part.ensures, c.slash_at-at.ensures) in
     let interface : ◌≡◌ {A = Number} (record { value = z.value; good = z.good }) (small (drop 1 (drop (slash_at s) s))) =
-    i.small-in2.ensures ∙ rw (p.from-place2.ensures, o.from_place.ensures, at.slash-at.ensures) in
-    c.only_if.ensures ∙ rw (c.with_thing.ensures, c.with_interface-named.ensures, c.both-test.ensures, c.is_free.ensures, b.both.ensures, ← node, ← interface)
+    c.small_in-interface.ensures ∙ rw (c.from_place-2.ensures, c.from_place.ensures, c.slash_at-at.ensures) in
+    c.only_if.ensures ∙ rw (c.with_thing.ensures, c.with_interface-named.ensures, c.both-test.ensures, c.is_free.ensures, c.both-numbers.ensures, ← node, ← interface)

@@ -5,5 +5,4 @@ use Rattle.inquiry.proofs.question.take_upto.Goals as goal
 
 pub returns : goal.returns
 unfolding upto_taken
-returns c =
-    c.only_if.ensures ∙ rw (c.with_upto.ensures, c.both.ensures, c.number_in-n.ensures)
+returns c = c.only_if.ensures ∙ rw (c.with_upto.ensures, c.both.ensures, c.number_in-n.ensures)

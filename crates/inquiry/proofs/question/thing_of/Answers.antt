@@ -12,12 +12,10 @@ returns-then-q-eq2 c = let k = c.args.q.kind in rw (ne_eqb k 1 c.if-q-eq1.false,
 
 pub returns-then-q-eq3 : goal.returns-then-q-eq3
 unfolding thing_of
-returns-then-q-eq3 c =
-    let k = c.args.q.kind in
+returns-then-q-eq3 c = let k = c.args.q.kind in
     rw (ne_eqb k 1 c.if-q-eq1.false, ne_eqb k 2 c.if-q-eq2.false, eq-eqb k 3 c.if-q-eq3.true)
 
 pub returns : goal.returns
 unfolding thing_of
-returns c =
-    let k = c.args.q.kind in
+returns c = let k = c.args.q.kind in
     rw (ne_eqb k 1 c.if-q-eq1.false, ne_eqb k 2 c.if-q-eq2.false, ne_eqb k 3 c.if-q-eq3.false)

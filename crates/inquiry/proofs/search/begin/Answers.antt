@@ -8,22 +8,18 @@ pub returns-then-s : goal.returns-then-s
 returns-then-s c = let s = c.args in already s.s s.buf.now c.if-s.true
 
 pub returns-then-n-lt8 : goal.returns-then-n-lt8
-returns-then-n-lt8 c =
-    let s = c.args in
+returns-then-n-lt8 c = let s = c.args in
     waits s.s s.buf.now c.within-n.result c.within-n.ensures c.if-n-lt8.true ∙ not-begun s.s s.buf.now c.if-s.false
 
 pub returns-then-not-header_fits : goal.returns-then-not-header_fits
-returns-then-not-header_fits c =
-    let s = c.args in
+returns-then-not-header_fits c = let s = c.args in
     wrong s.s s.buf.now c.within-n.result c.within-n.ensures c.if-n-lt8.false
-    (sym c.header_fits.ensures ∙ not-true c.header_fits.result c.if-not-header_fits.true) c.bad_one.result c.bad_one.ensures
+    (sym c.header_fits.ensures ∙ c.if-not-header_fits.true) c.bad_one.result c.bad_one.ensures
     ∙ not-begun s.s s.buf.now c.if-s.false
 
 pub returns : goal.returns
-returns c =
-    let b = w in
-    let s = b.args in
+returns c = let s = c.args in
     right s.s s.buf.now c.within-n.result c.within-n.ensures c.if-n-lt8.false
-    (sym c.header_fits.ensures ∙ not-false c.header_fits.result c.if-not-header_fits.false) c.shift-have.result c.shift-have.new.0 c.shift-have.ensures
+    (sym c.header_fits.ensures ∙ c.if-not-header_fits.false) c.shift-have.result c.shift-have.new.buf c.shift-have.ensures
     c.header_read.result c.header_read.ensures
-    ∙ not-begun s.s s.buf.now b.if1.false
+    ∙ not-begun s.s s.buf.now c.if-s.false

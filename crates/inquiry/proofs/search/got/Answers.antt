@@ -8,16 +8,13 @@ pub returns-then-s : goal.returns-then-s
 returns-then-s c = let s = c.args in no_more s.s s.n s.buf.now s.kept.now c.if-s.true
 
 pub returns-then-begun : goal.returns-then-begun
-returns-then-begun c =
-    let f = h in
-    let s = f.args in
-    let began : Begun = record { search = c.begin-begun.result; buf = c.begin-begun.new.1.0 } in
+returns-then-begun c = let s = c.args in
+    let began : Begun = record { search = c.begin-begun.result; buf = c.begin-begun.new.buf } in
     c.trace_on.ensures ∙ traces began s.kept.now c.if-begun.true
-    ∙ goes_on_lem s.s s.n s.buf.now s.kept.now f.if1.false c.advance.result c.advance.ensures c.hold-held.result c.hold-held.ensures began c.begin-begun.ensures
+    ∙ goes_on_lem s.s s.n s.buf.now s.kept.now c.if-s.false c.advance.result c.advance.ensures c.hold-held.result c.hold-held.ensures began c.begin-begun.ensures
 
 pub returns : goal.returns
-returns c =
-    let s = c.args in
-    let began : Begun = record { search = c.begin-begun.result; buf = c.begin-begun.new.1.0 } in
+returns c = let s = c.args in
+    let began : Begun = record { search = c.begin-begun.result; buf = c.begin-begun.new.buf } in
     rests began s.kept.now c.if-begun.false
     ∙ goes_on_lem s.s s.n s.buf.now s.kept.now c.if-s.false c.advance.result c.advance.ensures c.hold-held.result c.hold-held.ensures began c.begin-begun.ensures

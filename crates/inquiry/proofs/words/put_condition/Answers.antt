@@ -6,11 +6,6 @@ use Rattle.inquiry.proofs.words.put_condition.Goals as goal
 
 pub returns : goal.returns
 unfolding condition_words
-returns c =
-    let v = w in
-    let u = v in
-    let t = u in
-    let q = t in
-    let s = q.args in
+returns c = let s = c.args in
     let p : Put = record { buffer = s.out.now; at = s.at } in
-    then p _ _ (then p _ _ (then p _ _ (then p _ _ (then p _ _ (then p _ _ t.put-fault-kind.ensures u.put-words.ensures) v.put-decimal.ensures) c.put_words-e.ensures) c.put_link_down-f.ensures) c.put_interface-g.ensures) c.put_global.ensures
+    then p _ _ (then p _ _ (then p _ _ (then p _ _ (then p _ _ (then p _ _ c.put_fault_kind-a.ensures c.put_words-b.ensures) c.put_decimal-d.ensures) c.put_words-e.ensures) c.put_link_down-f.ensures) c.put_interface-g.ensures) c.put_global.ensures

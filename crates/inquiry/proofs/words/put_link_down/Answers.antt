@@ -4,9 +4,7 @@ use Rattle.capture.proofs.Typing.{typed-none}
 use Rattle.inquiry.proofs.words.put_link_down.Goals as goal
 
 pub returns-then-linkdown-eq1 : goal.returns-then-linkdown-eq1
-returns-then-linkdown-eq1 c =
-    rw (eq-eqb _ _ c.if-linkdown-eq1.true) c.put_words.ensures
+returns-then-linkdown-eq1 c = rw (eq-eqb _ _ c.if-linkdown-eq1.true) c.put_words.ensures
 
 pub returns : goal.returns
-returns c =
-    rw (ne_eqb _ _ c.if-linkdown-eq1.false) (typed-none (record { buffer = c.args.out.now; at = c.args.at }))
+returns c = rw (ne_eqb _ _ c.if-linkdown-eq1.false) (typed-none (record { buffer = c.args.out.now; at = c.args.at }))

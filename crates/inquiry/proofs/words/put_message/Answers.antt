@@ -7,25 +7,16 @@ use Rattle.inquiry.proofs.Putting.{cc-put, cv-put, none-put}
 use Rattle.inquiry.proofs.words.put_message.Goals as goal
 
 pub returns-then-channel-eq-CC_CHANNEL : goal.returns-then-channel-eq-CC_CHANNEL
-returns-then-channel-eq-CC_CHANNEL c =
-    let v = w in
-    let u = v in
-    let s = u.args in
+returns-then-channel-eq-CC_CHANNEL c = let s = c.args in
     let p : Put = record { buffer = s.out.now; at = s.at } in
-    cc-put p s.m.now v.get-u16.ensures (c.get_u32-your.ensures ∙ your-at s.m.now) c.if-channel-eq-CC_CHANNEL.true (then p _ _ c.put_words-a.ensures c.put_decimal.ensures)
+    cc-put p s.m.now c.get_u16-channel.ensures (c.get_u32-your.ensures ∙ your-at s.m.now) c.if-channel-eq-CC_CHANNEL.true (then p _ _ c.put_words-a.ensures c.put_decimal.ensures)
 
 pub returns-then-channel-eq-CV_CHANNEL : goal.returns-then-channel-eq-CV_CHANNEL
-returns-then-channel-eq-CV_CHANNEL c =
-    let v = w in
-    let u = v in
-    let t = u in
-    let q = t in
-    let s = q.args in
+returns-then-channel-eq-CV_CHANNEL c = let s = c.args in
     let p : Put = record { buffer = s.out.now; at = s.at } in
-    cv-put p s.m.now t.get-u16.ensures (u.get-u32.ensures ∙ your-at s.m.now) v.if1.false c.if-channel-eq-CV_CHANNEL.true c.mep_id_at-id.ensures c.mep_part.ensures.which c.put_cv.ensures
+    cv-put p s.m.now c.get_u16-channel.ensures (c.get_u32-your.ensures ∙ your-at s.m.now) c.if-channel-eq-CC_CHANNEL.false c.if-channel-eq-CV_CHANNEL.true c.mep_id_at-id.ensures c.mep_part.ensures.which c.put_cv.ensures
 
 pub returns : goal.returns
-returns c =
-    let s = c.args in
+returns c = let s = c.args in
     let p : Put = record { buffer = s.out.now; at = s.at } in
     none-put p s.m.now c.get_u16-channel.ensures c.if-channel-eq-CC_CHANNEL.false c.if-channel-eq-CV_CHANNEL.false

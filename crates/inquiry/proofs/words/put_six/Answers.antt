@@ -6,10 +6,6 @@ use Rattle.inquiry.proofs.words.put_six.Goals as goal
 
 pub returns : goal.returns
 unfolding padded
-returns c =
-    let v = w in
-    let u = v in
-    let t = u in
-    let s = t.args in
+returns c = let s = c.args in
     let p : Put = record { buffer = s.out.now; at = s.at } in
-    then p _ _ (then p _ _ (then p _ _ (then p _ _ (then p _ _ u.put-digit.ensures v.put-digit2.ensures) c.put_digit-g.ensures) c.put_digit-h.ensures) c.put_digit-i.ensures) c.put_digit.ensures
+    then p _ _ (then p _ _ (then p _ _ (then p _ _ (then p _ _ c.put_digit-a.ensures c.put_digit-f.ensures) c.put_digit-g.ensures) c.put_digit-h.ensures) c.put_digit-i.ensures) c.put_digit.ensures

@@ -5,10 +5,8 @@ use Rattle.inquiry.proofs.words.put_telling.Goals as goal
 
 pub returns-then-f : goal.returns-then-f
 unfolding telling_from telling
-returns-then-f c =
-    rw c.if-f.true c.put_answer.ensures
+returns-then-f c = rw c.if-f.true c.put_answer.ensures
 
 pub returns : goal.returns
 unfolding telling_from telling
-returns c =
-    rw c.if-f.false c.put_refused.ensures
+returns c = rw c.if-f.false c.put_refused.ensures
