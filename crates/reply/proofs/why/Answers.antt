@@ -6,10 +6,10 @@ use Rattle.reply.proofs.why.Goals as goal
 
 pub returns-then-not-header_fits : goal.returns-then-not-header_fits
 returns-then-not-header_fits c = let s = c.args in
-    unfit s.capture.now s.label s.thing (sym c.header_fits.ensures ∙ not-true c.header_fits.result c.if-not-header_fits.true)
+    unfit s.capture.now s.label s.thing (sym c.header_fits.ensures ∙ c.if-not-header_fits.true)
 
 pub returns : goal.returns
 returns c = let s = c.args in
-    answers s.capture.now _ _ s.label s.thing (sym c.header_fits.ensures ∙ not-false c.header_fits.result c.if-not-header_fits.false)
+    answers s.capture.now _ _ s.label s.thing (sym c.header_fits.ensures ∙ c.if-not-header_fits.false)
     c.most_records-upto.result c.most_records-upto.ensures c.begin.result c.begin.ensures c.trace-t.result c.trace-t.ensures
     c.record_asked.result c.record_asked.ensures c.answer_from.result c.answer_from.ensures
