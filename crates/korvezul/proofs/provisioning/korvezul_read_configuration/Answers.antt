@@ -1,4 +1,3 @@
-use borrow.Author.Rules.{rules}
 use mathlib.Core.Path.{ap, ◌∙◌}
 use Rattle.korvezul.specs.Configurations.{configuration_read}
 use Rattle.korvezul.proofs.provisioning.korvezul_read_configuration.Goals as goal
