@@ -7,10 +7,10 @@ use mathlib.Core.Bool.{true, false}
 use mathlib.Core.List.{List, [], ◌∷◌, ◌++◌}
 use lib.Dec.{eqb}
 use lib.ListN.{length, take}
-use lib.IntN.{ℤ, pos, negsuc}
 use borrow.Author.Tests.{eqb-true, eqb-false}
 use borrow.Rule.Slice.PartMut.{mid_of}
-use Rattle.libc.specs.Io.{Moved}
+use Rattle.std.specs.Prelude.{Result, Ok, Err}
+use Rattle.std.specs.Io.{ReadsAtMost, WritesAtMost}
 use Rattle.rules.proofs.Bools.{no_way, split}
 use Rattle.pump.specs.declared.Pump.{Pump}
 use Rattle.pump.specs.declared.Wanted.TheVariants.{Read, Write, Nothing}
@@ -77,12 +77,11 @@ module _ (p : Pump) (buf part : List ℕ) (at : ℕ) (w : Within p.have buf at) 
           leaves = ap (λ (l : List ℕ). record { pump = got_of p n (length l); buf = l; out = out }) (left_is p.have buf part at w lent);
         }
 
-    pub read_made : (r : Called) (z : ℤ) → Moved (length (mid_of at (length buf - at) buf)) z → AfterRead p (length after) z r
+    pub read_made : {E : Type 0} (r : Called) (z : Result ℕ E) → ReadsAtMost z part → AfterRead p (length after) z r
         → CallMade (record { pump = p; buf = buf; out = out }) r after
-    read_made r (pos n) m e =
-        call-moved (record { pump = p; buf = buf; out = out }) r after (got_of p n (length after)) e (reading p wanted)
-        (read-answers n (subst (λ (k : ℕ). n ≤ k) (sym lent) m))
-    read_made r (negsuc n) m f = call-stayed (record { pump = p; buf = buf; out = out }) r after f (λ e. absurd (reading p wanted e)) read_stays
+    read_made r (Ok n) m e =
+        call-moved (record { pump = p; buf = buf; out = out }) r after (got_of p n (length after)) e (reading p wanted) (read-answers n m.0)
+    read_made r (Err _) m f = call-stayed (record { pump = p; buf = buf; out = out }) r after f (λ e. absurd (reading p wanted e)) read_stays
 
 -- a write
 module _ (p : Pump) (buf out : List ℕ) (wanted : wants_of p ≡ Write) where
@@ -93,14 +92,15 @@ module _ (p : Pump) (buf out : List ℕ) (wanted : wants_of p ≡ Write) where
   write-fails : (r : Called) → Failed p r → CallMade (record { pump = p; buf = buf; out = out }) r buf
   write-fails r f = call-stayed _ r buf f (λ e. absurd (writing p wanted e)) (unchanged _)
 
-  pub write-made : (r : Called) (z : ℤ) → Moved (length (pending_in p out)) z → AfterWrite p z r → CallMade (record { pump = p; buf = buf; out = out }) r buf
-  write-made r (pos n) m e =
+  pub write-made : {E : Type 0} (r : Called) (z : Result ℕ E) → WritesAtMost z (pending_in p out) → AfterWrite p z r
+      → CallMade (record { pump = p; buf = buf; out = out }) r buf
+  write-made r (Ok n) m e =
       split (eqb n 0)
       (λ none. write-fails r (e.0 (eqb-true n 0 none)))
       (λ some.
       let more : 1 ≤ n = omega (arith, eqb-false n 0 some) in
       call-moved (record { pump = p; buf = buf; out = out }) r buf (took_of p n) (e.1 more) (writing p wanted) (write-answers n more m))
-  write-made r (negsuc n) m f = write-fails r f
+  write-made r (Err _) m f = write-fails r f
 
 -- ---- all calls
 alike-on : (x y z : Pumped) → Alike x y → Alike y z → Alike x z
@@ -167,4 +167,4 @@ module _ (buf out : List ℕ) where
 
   -- so what `pump` proves of its loop holds of the program, however far it has come
   pub reached-written : 2064 ≤ length buf → 160 ≤ length out → (after : Pumped) (r : Reached buf out after) → TextWritten (watched (before_calls buf out) r.answers)
-  reached-written b o after r = text-written buf out b o r.answers r.wanted
+  reached-written b o y r = text-written buf out b o r.answers r.wanted

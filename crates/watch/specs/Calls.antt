@@ -1,7 +1,7 @@
 -- The system calls of `watch`: each is one of the loop of which `pump` proves what is written. The contract of a system call gives a bound for the number
 -- that it answers, and says nothing of octets. That those read are the input's, and that those taken are written, is left to the two calls themselves.
 -- Assumes nothing.
-use Rattle.std.specs.Prelude.{ℕ, ◌≤◌, ◌≡◌, true, false, List, length, take, ℤ, pos, negsuc}
+use Rattle.std.specs.Prelude.{ℕ, ◌≤◌, ◌≡◌, true, false, List, length, take, Result, Ok, Err}
 use Rattle.pump.specs.declared.Pump.{Pump}
 use Rattle.pump.specs.declared.Wanted.TheVariants.{Write, Nothing}
 use Rattle.pump.specs.Pumping.{Pumped, wants_of, got_of, took_of}
@@ -14,14 +14,14 @@ abbrev pub Failed : Pump → Called → Type 0
 Failed p r = (r.core ≡ p) × (r.moved ≡ false)
 
 -- the core, with a buffer of that room, takes so many octets as read; none is the end of the input
-abbrev pub AfterRead : Pump → ℕ → ℤ → Called → Type 0
-AfterRead p room (pos n) r = r ≡ record { core = got_of p n room; moved = true; go = true }
-AfterRead p room (negsuc n) r = Failed p r
+abbrev pub AfterRead : {E : Type 0} → Pump → ℕ → Result ℕ E → Called → Type 0
+AfterRead p room (Ok n) r = r ≡ record { core = got_of p n room; moved = true; go = true }
+AfterRead p room (Err e) r = Failed p r
 
 -- it takes so many octets as written; a write that takes none has failed
-abbrev pub AfterWrite : Pump → ℤ → Called → Type 0
-AfterWrite p (pos n) r = (n ≡ 0 → Failed p r) × (1 ≤ n → r ≡ record { core = took_of p n; moved = true; go = true })
-AfterWrite p (negsuc n) r = Failed p r
+abbrev pub AfterWrite : {E : Type 0} → Pump → Result ℕ E → Called → Type 0
+AfterWrite p (Ok n) r = (n ≡ 0 → Failed p r) × (1 ≤ n → r ≡ record { core = took_of p n; moved = true; go = true })
+AfterWrite p (Err e) r = Failed p r
 
 -- ---- one call
 -- there is an answer to the call that was wanted, and with it the core and its buffers are these

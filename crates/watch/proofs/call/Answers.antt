@@ -1,5 +1,4 @@
 use mathlib.Core.Path.{sym, ap, ◌∙◌}
-use borrow.Author.Rules.{rules}
 use Rattle.pump.specs.Pumping.{Pumped}
 use Rattle.watch.specs.declared.Called.{Called}
 use Rattle.watch.proofs.Calling.{call-stayed, unchanged}

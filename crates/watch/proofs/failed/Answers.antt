@@ -1,5 +1,4 @@
 use mathlib.Core.Path.{ap}
-use borrow.Author.Rules.{rules}
 use Rattle.watch.specs.declared.Called.{Called}
 use Rattle.watch.proofs.failed.Goals as goal
 

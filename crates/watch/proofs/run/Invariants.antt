@@ -1,11 +1,7 @@
 -- calls that are left.
-use mathlib.Core.Path.{◌≡◌, refl, ◌∙◌}
-use mathlib.Core.Logic.{⊎_elim}
+use mathlib.Core.Path.{◌≡◌}
 use lib.ListN.{length}
-use borrow.Author.Rules.{rules}
-use Rattle.pump.specs.Pumping.{Pumped}
 use Rattle.watch.specs.Calls.{Reached}
-use Rattle.watch.proofs.Calling.{reached-first, reached-turn, reached-same}
 use Rattle.watch.proofs.run.Given as goal
 
 abbrev pub invariant-loop-turns : goal.invariant-loop-turns

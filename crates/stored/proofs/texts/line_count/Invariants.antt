@@ -1,8 +1,6 @@
 -- `stored::texts::line_count` is safe and ends: no more lines than octets were looked at.
 use Prim.Native.Nat.{◌≤◌, ◌-◌}
-use native.Mathlib.Omega.{arith}
 use lib.ListN.{length}
-use borrow.Author.Rules.{rules}
 use Rattle.stored.proofs.texts.line_count.Given as goal
 
 abbrev pub invariant-loop-i : goal.invariant-loop-i
