@@ -2,69 +2,26 @@
 -- Assumes nothing.
 use Prim.Native.Nat.{ℕ, ◌-◌, ◌^◌, ◌≤◌, ◌<◌}
 use native.Mathlib.Omega.{arith}
-use mathlib.Core.Path.{◌≡◌, refl, sym, ap, subst, ◌∙◌}
-use mathlib.Core.Bool.{Bool, true, false, not}
+use mathlib.Core.Path.{◌≡◌, sym, ap, subst, ◌∙◌}
+use mathlib.Core.Bool.{false}
 use mathlib.Core.List.{List, [], ◌++◌}
 use lib.Dec.{eqb}
 use lib.ListN.{length, take}
-use lib.IntN.{ℤ, pos, negsuc}
-use lib.Signed.{lt_z}
-use mir.Syntax.{w64}
-use mir.Val.{SFits, to_z, of_z}
-use borrow.Author.Tests.{ltb-true, eqb-true, eqb-false, not-true}
+use borrow.Author.Tests.{eqb-true, eqb-false}
 use borrow.Rule.Slice.PartMut.{mid_of}
-use Rattle.libc.specs.Io.{Moved as MovedAtMost}
-use Rattle.io.specs.Counts.{clamp_len}
-use Rattle.rules.proofs.Bools.{no_way, split}
+use Rattle.std.specs.Prelude.{Result, Ok, Err}
+use Rattle.std.specs.Io.{ReadsAtMost}
+use Rattle.rules.proofs.Bools.{split}
 use Rattle.pump.specs.Pumping.{Within}
-use Rattle.syscall.proofs.Answers.{counted, held, test-held, count_held, left, part_room, left_is, left-length, left_there}
+use Rattle.syscall.proofs.Answers.{left, part_room, left_is, left-length, left_there}
 use Rattle.inquiry.specs.declared.search.Search.{Search}
 use Rattle.inquiry.specs.Searching.{Searched, start_of, got_of}
-use Rattle.inquiry.specs.Sought.{Sought, Piece, with_piece, Fits, TextFound}
+use Rattle.inquiry.specs.Sought.{Sought, TextFound}
 use Rattle.inquiry.proofs.Sought.{sought-start, sought-got}
 use Rattle.inquiry.proofs.SoughtText.{sought-text, room}
 use Rattle.inquiry.proofs.Pieces.{sought-behind}
 use Rattle.why.specs.declared.Looked.{Looked}
-use Rattle.why.specs.Reads.{looking, Stayed, Told, Goes, AfterRead, Answer, Alike, ReadMade, Moved, Still, OneRead, Reached}
-
--- ---- the number that a read answers
-module _ (x : Searched) (r : Looked) (buf kept : List ℕ) where
-  told-failed : (z : ℤ) → lt_z z (pos 0) ≡ true → Stayed x r buf kept → Told x z r buf kept
-  told-failed (pos n) below f = absurd (omega (arith, ltb-true n 0 below))
-  told-failed (negsuc n) below f = f
-
-  module _ (most n : ℕ) where
-    told_none : (z : ℤ) → lt_z z (pos 0) ≡ false → MovedAtMost most z → n ≡ clamp_len z most → n ≡ 0 → Stayed x r buf kept → Told x z r buf kept
-    told_none (pos k) above m e none f = (λ zero. f, λ some. absurd (omega (arith, counted k most n m e, none, some)))
-    told_none (negsuc k) above m e none f = no_way refl above
-
-    told_moved : (z : ℤ) → lt_z z (pos 0) ≡ false → MovedAtMost most z → n ≡ clamp_len z most → (n ≡ 0 → ⊥)
-        → looking r buf kept ≡ got_of x.search n x.buf x.kept → Told x z r buf kept
-    told_moved (pos k) above m e some g =
-        let same = counted k most n m e in
-        (λ none. absurd (some (same ∙ none)), λ l. g ∙ ap (λ (i : ℕ). got_of x.search i x.buf x.kept) same)
-    told_moved (negsuc k) above m e some g = no_way refl above
-
-  -- as the code holds it
-  module _ (z : ℤ) (fits : SFits w64 z) where
-    pub after-held : AfterRead x (to_z w64 (of_z w64 z)) r buf kept → AfterRead x z r buf kept
-    after-held a = subst (λ (y : ℤ). AfterRead x y r buf kept) (held z fits) a
-
-    pub after-failed : lt_z (to_z w64 (of_z w64 z)) (pos 0) ≡ true → Stayed x r buf kept → AfterRead x z r buf kept
-    after-failed below f =
-        record { told = told-failed z (test-held z fits below) f; goes = λ on g. ap (λ (s : Search). s.over) f.same-search ∙ on }
-
-    module _ (above : lt_z (to_z w64 (of_z w64 z)) (pos 0) ≡ false) (most n : ℕ) (m : MovedAtMost most z) (e : n ≡ clamp_len (to_z w64 (of_z w64 z)) most) where
-      pub after_none : n ≡ 0 → r.go ≡ false → Stayed x r buf kept → AfterRead x z r buf kept
-      after_none none stops f =
-          record { told = told_none most n z (test-held z fits above) m (count_held z fits most e) none f; goes = λ on g. no_way g stops }
-
-      pub after-moved : (n ≡ 0 → ⊥) → r.go ≡ not r.search.over → looking r buf kept ≡ got_of x.search n x.buf x.kept → AfterRead x z r buf kept
-      after-moved some goes g =
-          record {
-            told = told_moved most n z (test-held z fits above) m (count_held z fits most e) some g;
-            goes = λ on t. not-true r.search.over (sym goes ∙ t);
-          }
+use Rattle.why.specs.Reads.{looking, Stayed, Told, AfterRead, Answer, Alike, ReadMade, Moved, Still, OneRead, Reached}
 
 -- ---- one read
 module _ (x : Searched) (part : List ℕ) (at : ℕ) (w : Within x.search.have x.buf at)
@@ -94,16 +51,14 @@ module _ (x : Searched) (part : List ℕ) (at : ℕ) (w : Within x.search.have x
           leaves = g ∙ ap (λ (l : List ℕ). got_of x.search n l x.kept) after_is;
         }
 
-    read_told : (z : ℤ) → MovedAtMost (length (mid_of at (length x.buf - at) x.buf)) z
-        → Told (record { search = x.search; buf = after; kept = x.kept }) z r buf kept → ReadMade x (looking r buf kept)
-    read_told (pos n) m t =
+    read_told : {E : Type 0} (z : Result ℕ E) → ReadsAtMost z part → Told (record { search = x.search; buf = after; kept = x.kept }) z r buf kept → ReadMade x (looking r buf kept)
+    read_told (Ok n) m t =
         split (eqb n 0)
         (λ none. Still (stays (t.0 (eqb-true n 0 none))))
-        (λ some. Moved (answers n (subst (λ (k : ℕ). n ≤ k) (sym lent) m) (t.1 (omega (arith, eqb-false n 0 some)))))
-    read_told (negsuc n) m f = Still (stays f)
+        (λ some. Moved (answers n m.0 (t.1 (omega (arith, eqb-false n 0 some)))))
+    read_told (Err _) m f = Still (stays f)
 
-    pub read_made : (z : ℤ) → MovedAtMost (length (mid_of at (length x.buf - at) x.buf)) z
-        → AfterRead (record { search = x.search; buf = after; kept = x.kept }) z r buf kept → OneRead x r buf kept
+    pub read_made : {E : Type 0} (z : Result ℕ E) → ReadsAtMost z part → AfterRead (record { search = x.search; buf = after; kept = x.kept }) z r buf kept → OneRead x r buf kept
     read_made z m a = record { made = read_told z m a.told; goes = a.goes }
 
 -- ---- all reads

@@ -1,8 +1,7 @@
 -- The reads of `why`, one behind the other. The contract of a read gives a bound for the number that it answers, and says nothing of octets. That those
 -- read are the input's is left to the call itself.
 -- Assumes nothing.
-use Rattle.std.specs.Prelude.{ℕ, ◌≤◌, ◌≡◌, true, false, List, length, take, ℤ, pos, negsuc}
-use Rattle.inquiry.specs.declared.search.Search.{Search}
+use Rattle.std.specs.Prelude.{ℕ, ◌≤◌, ◌≡◌, true, false, List, length, take, Result, Ok, Err}
 use Rattle.inquiry.specs.Searching.{Searched, got_of}
 use Rattle.inquiry.specs.Sought.{Sought, Piece, with_piece, Fits}
 use Rattle.why.specs.declared.Looked.{Looked}
@@ -17,15 +16,15 @@ pub record Stayed (x : Searched) (r : Looked) (buf kept : List ℕ) : Type 0 whe
   pub same-buf : buf ≡ x.buf
   pub same_kept : kept ≡ x.kept
 
-abbrev pub Told : Searched → ℤ → Looked → List ℕ → List ℕ → Type 0
-Told x (pos n) r buf kept = (n ≡ 0 → Stayed x r buf kept) × (1 ≤ n → looking r buf kept ≡ got_of x.search n x.buf x.kept)
-Told x (negsuc n) r buf kept = Stayed x r buf kept
+abbrev pub Told : {E : Type 0} → Searched → Result ℕ E → Looked → List ℕ → List ℕ → Type 0
+Told x (Ok n) r buf kept = (n ≡ 0 → Stayed x r buf kept) × (1 ≤ n → looking r buf kept ≡ got_of x.search n x.buf x.kept)
+Told x (Err e) r buf kept = Stayed x r buf kept
 
 -- another read is made only where the answer is not known
 abbrev pub Goes : Searched → Looked → Type 0
 Goes x r = x.search.over ≡ false → r.go ≡ true → r.search.over ≡ false
 
-pub record AfterRead (x : Searched) (z : ℤ) (r : Looked) (buf kept : List ℕ) : Type 0 where
+pub record AfterRead {E : Type 0} (x : Searched) (z : Result ℕ E) (r : Looked) (buf kept : List ℕ) : Type 0 where
   pub told : Told x z r buf kept
   pub goes : Goes x r
 

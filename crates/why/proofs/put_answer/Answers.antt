@@ -1,4 +1,3 @@
-use borrow.Author.Rules.{rules}
 use Rattle.why.proofs.put_answer.Goals as goal
 
 pub returns : goal.returns

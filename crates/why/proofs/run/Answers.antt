@@ -1,10 +1,6 @@
-use mathlib.Core.Path.{◌≡◌, refl, ap, ◌∙◌}
-use mathlib.Core.Bool.{true, false}
-use lib.ListN.{length}
-use borrow.Author.Rules.{rules}
+use mathlib.Core.Path.{refl, ap, ◌∙◌}
 use Rattle.inquiry.specs.declared.search.Search.{Search}
 use Rattle.inquiry.specs.Searching.{Searched, start_of}
-use Rattle.why.specs.Reads.{Reached}
 use Rattle.why.proofs.Reading.{reached-first, reached-next}
 use Rattle.why.proofs.run.Goals as goal
 
@@ -25,9 +21,9 @@ pub loop-turns-preserved : goal.loop-turns-preserved
 loop-turns-preserved c =
     let a = c.args in
     let i = c.loop-turns.invariant in
-    let x : Searched = record { search = c.loop-turns.s; buf = c.loop-turns.buf; kept = c.loop-turns.auto } in (
-      c.read_on-x.auto.1.0 ∙ i.0,
-      c.read_on-x.auto.1.1.0 ∙ i.1,
+    let x : Searched = record { search = c.loop-turns.s; buf = c.loop-turns.buf; kept = c.loop-turns.kept } in (
+      c.read_on-x.auto.buf ∙ i.0,
+      c.read_on-x.auto.kept ∙ i.1,
       c.read_on-x.ensures.goes (i.2 c.if-go.true),
       reached-next a.label a.upto c.ranges.upto.fits a.kept.now x i.3 c.read_on-x.result _ _ c.read_on-x.ensures,
     )

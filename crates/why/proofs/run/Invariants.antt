@@ -1,11 +1,7 @@
-use mathlib.Core.Path.{◌≡◌, refl, ap, ◌∙◌}
+use mathlib.Core.Path.{◌≡◌}
 use mathlib.Core.Bool.{true, false}
 use lib.ListN.{length}
-use borrow.Author.Rules.{rules}
-use Rattle.inquiry.specs.declared.search.Search.{Search}
-use Rattle.inquiry.specs.Searching.{Searched, start_of}
 use Rattle.why.specs.Reads.{Reached}
-use Rattle.why.proofs.Reading.{reached-first, reached-next}
 use Rattle.why.proofs.run.Given as goal
 
 abbrev pub invariant-loop-turns : goal.invariant-loop-turns
