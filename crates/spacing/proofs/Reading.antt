@@ -1,70 +1,27 @@
 -- One read of `spacing` is one that `gauge`'s theorem speaks of, and so are all of them, one behind the other.
 -- Assumes nothing.
-use Prim.Native.Nat.{ℕ, ◌-◌, ◌≤◌, ◌<◌}
+use Prim.Native.Nat.{ℕ, ◌-◌, ◌≤◌}
 use native.Mathlib.Omega.{arith}
-use mathlib.Core.Path.{◌≡◌, refl, sym, ap, subst, ◌∙◌}
-use mathlib.Core.Bool.{Bool, true, false, not}
+use mathlib.Core.Path.{◌≡◌, sym, ap, subst, ◌∙◌}
+use mathlib.Core.Bool.{false}
 use mathlib.Core.List.{List, [], ◌++◌}
 use lib.Dec.{eqb}
 use lib.ListN.{length, take}
-use lib.IntN.{ℤ, pos, negsuc}
-use lib.Signed.{lt_z}
-use mir.Syntax.{w64}
-use mir.Val.{SFits, to_z, of_z}
-use borrow.Author.Tests.{ltb-true, eqb-true, eqb-false, not-true}
+use borrow.Author.Tests.{eqb-true, eqb-false}
 use borrow.Rule.Slice.PartMut.{mid_of}
-use Rattle.libc.specs.Io.{Moved as MovedAtMost}
-use Rattle.io.specs.Counts.{clamp_len}
-use Rattle.rules.proofs.Bools.{no_way, split}
+use Rattle.std.specs.Prelude.{Result, Ok, Err}
+use Rattle.std.specs.Io.{ReadsAtMost}
+use Rattle.rules.proofs.Bools.{split}
 use Rattle.pump.specs.Pumping.{Within}
-use Rattle.syscall.proofs.Answers.{counted, held, test-held, count_held, left, part_room, left_is, left-length, left_there}
+use Rattle.syscall.proofs.Answers.{left, part_room, left_is, left-length, left_there}
 use Rattle.gauge.specs.declared.input.Gauge.{Gauge}
 use Rattle.gauge.specs.Gauging.{Gauged, start_of, got_of}
-use Rattle.gauge.specs.Held.{Held, Piece, with_piece, Fits, TextFound}
+use Rattle.gauge.specs.Held.{Held, TextFound}
 use Rattle.gauge.proofs.HeldOn.{held_start, held-got}
 use Rattle.gauge.proofs.HeldText.{held-text, room}
 use Rattle.gauge.proofs.Pieces.{held-behind}
 use Rattle.spacing.specs.declared.Looked.{Looked}
-use Rattle.spacing.specs.Reads.{looking, Stayed, Told, Goes, AfterRead, Answer, Alike, ReadMade, Moved, Still, OneRead, Reached}
-
--- ---- the number that a read answers
-module _ (x : Gauged) (r : Looked) (buf : List ℕ) where
-  told-failed : (z : ℤ) → lt_z z (pos 0) ≡ true → Stayed x r buf → Told x z r buf
-  told-failed (pos n) below f = absurd (omega (arith, ltb-true n 0 below))
-  told-failed (negsuc n) below f = f
-
-  module _ (most n : ℕ) where
-    told_none : (z : ℤ) → lt_z z (pos 0) ≡ false → MovedAtMost most z → n ≡ clamp_len z most → n ≡ 0 → Stayed x r buf → Told x z r buf
-    told_none (pos k) above m e none f = (λ zero. f, λ some. absurd (omega (arith, counted k most n m e, none, some)))
-    told_none (negsuc k) above m e none f = no_way refl above
-
-    told_moved : (z : ℤ) → lt_z z (pos 0) ≡ false → MovedAtMost most z → n ≡ clamp_len z most → (n ≡ 0 → ⊥)
-        → looking r buf ≡ got_of x.gauge n x.buf → Told x z r buf
-    told_moved (pos k) above m e some g =
-        let same = counted k most n m e in
-        (λ none. absurd (some (same ∙ none)), λ l. g ∙ ap (λ (i : ℕ). got_of x.gauge i x.buf) same)
-    told_moved (negsuc k) above m e some g = no_way refl above
-
-  -- as the code holds it
-  module _ (z : ℤ) (fits : SFits w64 z) where
-    pub after-held : AfterRead x (to_z w64 (of_z w64 z)) r buf → AfterRead x z r buf
-    after-held a = subst (λ (y : ℤ). AfterRead x y r buf) (held z fits) a
-
-    pub after-failed : lt_z (to_z w64 (of_z w64 z)) (pos 0) ≡ true → Stayed x r buf → AfterRead x z r buf
-    after-failed below f =
-        record { told = told-failed z (test-held z fits below) f; goes = λ on g. ap (λ (s : Gauge). s.over) f.same-gauge ∙ on }
-
-    module _ (above : lt_z (to_z w64 (of_z w64 z)) (pos 0) ≡ false) (most n : ℕ) (m : MovedAtMost most z) (e : n ≡ clamp_len (to_z w64 (of_z w64 z)) most) where
-      pub after_none : n ≡ 0 → r.go ≡ false → Stayed x r buf → AfterRead x z r buf
-      after_none none stops f =
-          record { told = told_none most n z (test-held z fits above) m (count_held z fits most e) none f; goes = λ on g. no_way g stops }
-
-      pub after-moved : (n ≡ 0 → ⊥) → r.go ≡ not r.gauge.over → looking r buf ≡ got_of x.gauge n x.buf → AfterRead x z r buf
-      after-moved some goes g =
-          record {
-            told = told_moved most n z (test-held z fits above) m (count_held z fits most e) some g;
-            goes = λ on t. not-true r.gauge.over (sym goes ∙ t);
-          }
+use Rattle.spacing.specs.Reads.{looking, Stayed, Told, AfterRead, Answer, Alike, ReadMade, Moved, Still, OneRead, Reached}
 
 -- ---- one read
 module _ (x : Gauged) (part : List ℕ) (at : ℕ) (w : Within x.gauge.have x.buf at)
@@ -93,16 +50,14 @@ module _ (x : Gauged) (part : List ℕ) (at : ℕ) (w : Within x.gauge.have x.bu
           leaves = g ∙ ap (λ (l : List ℕ). got_of x.gauge n l) after_is;
         }
 
-    read_told : (z : ℤ) → MovedAtMost (length (mid_of at (length x.buf - at) x.buf)) z
-        → Told (record { gauge = x.gauge; buf = after }) z r buf → ReadMade x (looking r buf)
-    read_told (pos n) m t =
+    read_told : {E : Type 0} (z : Result ℕ E) → ReadsAtMost z part → Told (record { gauge = x.gauge; buf = after }) z r buf → ReadMade x (looking r buf)
+    read_told (Ok n) m t =
         split (eqb n 0)
         (λ none. Still (stays (t.0 (eqb-true n 0 none))))
-        (λ some. Moved (answers n (subst (λ (k : ℕ). n ≤ k) (sym lent) m) (t.1 (omega (arith, eqb-false n 0 some)))))
-    read_told (negsuc n) m f = Still (stays f)
+        (λ some. Moved (answers n m.0 (t.1 (omega (arith, eqb-false n 0 some)))))
+    read_told (Err _) m f = Still (stays f)
 
-    pub read_made : (z : ℤ) → MovedAtMost (length (mid_of at (length x.buf - at) x.buf)) z
-        → AfterRead (record { gauge = x.gauge; buf = after }) z r buf → OneRead x r buf
+    pub read_made : {E : Type 0} (z : Result ℕ E) → ReadsAtMost z part → AfterRead (record { gauge = x.gauge; buf = after }) z r buf → OneRead x r buf
     read_made z m a = record { made = read_told z m a.told; goes = a.goes }
 
 -- ---- all reads

@@ -1,7 +1,7 @@
 -- The reads of `spacing`, one behind the other. The contract of a read gives a bound for the number that it answers, and says nothing of octets. That those
 -- read are the input's is left to the call itself.
 -- Assumes nothing.
-use Rattle.std.specs.Prelude.{ℕ, ◌≤◌, ◌≡◌, true, false, List, length, take, ℤ, pos, negsuc}
+use Rattle.std.specs.Prelude.{ℕ, ◌≤◌, ◌≡◌, true, false, List, length, take, Result, Ok, Err}
 use Rattle.gauge.specs.Gauging.{Gauged, got_of}
 use Rattle.gauge.specs.Held.{Held, Piece, with_piece, Fits}
 use Rattle.spacing.specs.declared.Looked.{Looked}
@@ -15,15 +15,15 @@ pub record Stayed (x : Gauged) (r : Looked) (buf : List ℕ) : Type 0 where
   pub same-gauge : r.gauge ≡ x.gauge
   pub same-buf : buf ≡ x.buf
 
-abbrev pub Told : Gauged → ℤ → Looked → List ℕ → Type 0
-Told x (pos n) r buf = (n ≡ 0 → Stayed x r buf) × (1 ≤ n → looking r buf ≡ got_of x.gauge n x.buf)
-Told x (negsuc n) r buf = Stayed x r buf
+abbrev pub Told : {E : Type 0} → Gauged → Result ℕ E → Looked → List ℕ → Type 0
+Told x (Ok n) r buf = (n ≡ 0 → Stayed x r buf) × (1 ≤ n → looking r buf ≡ got_of x.gauge n x.buf)
+Told x (Err e) r buf = Stayed x r buf
 
 -- another read is made only where the numbers are not known
 abbrev pub Goes : Gauged → Looked → Type 0
 Goes x r = x.gauge.over ≡ false → r.go ≡ true → r.gauge.over ≡ false
 
-pub record AfterRead (x : Gauged) (z : ℤ) (r : Looked) (buf : List ℕ) : Type 0 where
+pub record AfterRead {E : Type 0} (x : Gauged) (z : Result ℕ E) (r : Looked) (buf : List ℕ) : Type 0 where
   pub told : Told x z r buf
   pub goes : Goes x r
 

@@ -1,4 +1,3 @@
-use borrow.Author.Rules.{rules}
 use Rattle.spacing.proofs.is_label.Goals as goal
 
 pub returns : goal.returns

@@ -1,10 +1,6 @@
-use mathlib.Core.Path.{◌≡◌, refl, ap, ◌∙◌}
-use mathlib.Core.Bool.{true, false}
-use lib.ListN.{length}
-use borrow.Author.Rules.{rules}
+use mathlib.Core.Path.{refl, ap, ◌∙◌}
 use Rattle.gauge.specs.declared.input.Gauge.{Gauge}
 use Rattle.gauge.specs.Gauging.{Gauged, start_of}
-use Rattle.spacing.specs.Reads.{Reached}
 use Rattle.spacing.proofs.Reading.{reached-first, reached-next}
 use Rattle.spacing.proofs.run.Goals as goal
 
@@ -25,7 +21,7 @@ loop-turns-preserved c =
     let a = c.args in
     let i = c.loop-turns.invariant in
     let x : Gauged = record { gauge = c.loop-turns.g; buf = c.loop-turns.buf } in (
-      c.read_on-x.auto.1.0 ∙ i.0,
+      c.read_on-x.auto.buf ∙ i.0,
       c.read_on-x.ensures.goes (i.1 c.if-go.true),
       reached-next a.label x i.2 c.read_on-x.result _ c.read_on-x.ensures,
     )

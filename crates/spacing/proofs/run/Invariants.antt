@@ -1,11 +1,7 @@
-use mathlib.Core.Path.{◌≡◌, refl, ap, ◌∙◌}
+use mathlib.Core.Path.{◌≡◌}
 use mathlib.Core.Bool.{true, false}
 use lib.ListN.{length}
-use borrow.Author.Rules.{rules}
-use Rattle.gauge.specs.declared.input.Gauge.{Gauge}
-use Rattle.gauge.specs.Gauging.{Gauged, start_of}
 use Rattle.spacing.specs.Reads.{Reached}
-use Rattle.spacing.proofs.Reading.{reached-first, reached-next}
 use Rattle.spacing.proofs.run.Given as goal
 
 abbrev pub invariant-loop-turns : goal.invariant-loop-turns
