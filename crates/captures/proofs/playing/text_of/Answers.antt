@@ -1,7 +1,3 @@
-use mathlib.Core.Path.{◌≡◌}
-use native.Mathlib.Omega.{arith}
-use lib.ListN.{length}
-use borrow.Author.Rules.{rules}
 use Rattle.captures.proofs.playing.text_of.Goals as goal
 
 pub returns-then-not-header_fits : goal.returns-then-not-header_fits

@@ -1,7 +1,5 @@
 use mathlib.Core.Path.{◌≡◌}
-use native.Mathlib.Omega.{arith}
 use lib.ListN.{length}
-use borrow.Author.Rules.{rules}
 use Rattle.captures.proofs.playing.text_of.Given as goal
 
 abbrev pub invariant-loop-turns : goal.invariant-loop-turns
