@@ -1,7 +1,6 @@
 -- `provision::read_all` is safe and ends.
 use mathlib.Core.Path.{◌≡◌}
 use lib.ListN.{length}
-use borrow.Author.Rules.{rules}
 use Rattle.provision.proofs.input.read_all.Given as goal
 
 abbrev pub invariant-loop-turns : goal.invariant-loop-turns

@@ -1,6 +1,5 @@
 -- `provision::all_words` is safe and ends.
 use Prim.Native.Nat.{◌-◌, ◌≤◌}
-use borrow.Author.Rules.{rules}
 use Rattle.provision.proofs.words.all_words.Given as goal
 
 abbrev pub invariant-loop-i : goal.invariant-loop-i

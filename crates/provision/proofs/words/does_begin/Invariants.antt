@@ -1,7 +1,6 @@
 -- `provision::does_begin` is safe and ends.
 use Prim.Native.Nat.{◌-◌, ◌≤◌}
 use lib.ListN.{length}
-use borrow.Author.Rules.{rules}
 use Rattle.provision.proofs.words.does_begin.Given as goal
 
 abbrev pub invariant-loop-i : goal.invariant-loop-i

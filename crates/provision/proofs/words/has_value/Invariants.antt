@@ -1,7 +1,6 @@
 -- `provision::has_value` is safe and ends.
 use Prim.Native.Nat.{◌-◌, ◌≤◌}
 use lib.ListN.{length}
-use borrow.Author.Rules.{rules}
 use Rattle.provision.proofs.words.has_value.Given as goal
 
 abbrev pub invariant-loop-i : goal.invariant-loop-i

@@ -1,7 +1,6 @@
 -- `provision::number_in` is safe and ends.
 use Prim.Native.Nat.{◌-◌, ◌≤◌}
 use lib.ListN.{length}
-use borrow.Author.Rules.{rules}
 use Rattle.provision.proofs.words.number_in.Given as goal
 
 abbrev pub invariant-loop-i : goal.invariant-loop-i
