@@ -1,7 +1,5 @@
 -- `compare::tell` is safe and ends: the measure is the number of turns that are left.
-use mathlib.Core.Path.{◌≡◌, refl}
-use borrow.Author.Rules.{rules}
-use lib.ListN.{length}
+use mathlib.Core.Path.{refl}
 use Rattle.compare.proofs.tell.Goals as goal
 
 pub loop-turns-init : goal.loop-turns-init

@@ -1,6 +1,5 @@
 -- `compare::tell` is safe and ends: the measure is the number of turns that are left.
-use mathlib.Core.Path.{◌≡◌, refl}
-use borrow.Author.Rules.{rules}
+use mathlib.Core.Path.{◌≡◌}
 use lib.ListN.{length}
 use Rattle.compare.proofs.tell.Given as goal
 

@@ -1,7 +1,6 @@
 -- `compare::shift` is safe and ends: the measure is the number of octets that are left.
-use mathlib.Core.Path.{◌≡◌, refl}
+use mathlib.Core.Path.{◌≡◌}
 use Prim.Native.Nat.{◌-◌}
-use borrow.Author.Rules.{rules}
 use lib.ListN.{length}
 use Rattle.compare.proofs.window.shift.Given as goal
 
