@@ -1,6 +1,5 @@
 -- `compares::is_unwritten` is safe and ends: the measure is the number of entries that are left.
 use Prim.Native.Nat.{◌-◌}
-use borrow.Author.Rules.{rules}
 use lib.ListN.{length}
 use Rattle.compares.proofs.is_unwritten.Given as goal
 

@@ -1,6 +1,5 @@
 -- `compares::main` is safe and ends: the measure is the number of arguments that are left.
 use Prim.Native.Nat.{◌-◌}
-use borrow.Author.Rules.{rules}
 use Rattle.compares.proofs.main.Given as goal
 
 abbrev pub invariant-loop-i : goal.invariant-loop-i

@@ -1,6 +1,5 @@
 -- `compares::say_list` is safe and ends: the measure is the number of entries that are left.
 use Prim.Native.Nat.{◌-◌}
-use borrow.Author.Rules.{rules}
 use Rattle.compares.proofs.say_list.Given as goal
 
 abbrev pub invariant-loop-i : goal.invariant-loop-i
