@@ -1,8 +1,6 @@
 -- `logs::asking::take_number` is safe and ends: the measure is the number of octets that are left.
 use Prim.Native.Nat.{◌-◌}
-use native.Mathlib.Omega.{arith}
 use lib.ListN.{length}
-use borrow.Author.Rules.{rules}
 use Rattle.logs.proofs.asking.take_number.Given as goal
 
 abbrev pub invariant-loop-i : goal.invariant-loop-i
