@@ -1,8 +1,6 @@
 -- `questions::asking::searched` is safe and ends: the measure is the number of turns that are left, from one that no run uses up, and both buffers keep their lengths.
 use mathlib.Core.Path.{◌≡◌}
-use native.Mathlib.Omega.{arith}
 use lib.ListN.{length}
-use borrow.Author.Rules.{rules}
 use Rattle.questions.proofs.asking.searched.Given as goal
 
 abbrev pub invariant-loop-turns : goal.invariant-loop-turns
