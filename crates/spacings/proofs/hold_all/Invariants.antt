@@ -1,8 +1,6 @@
 -- `spacings::hold_all` is safe and ends: the measure is the number of octets that are left.
 use Prim.Native.Nat.{◌-◌}
-use native.Mathlib.Omega.{arith}
 use lib.ListN.{length}
-use borrow.Author.Rules.{rules}
 use Rattle.spacings.proofs.hold_all.Given as goal
 
 abbrev pub invariant-loop-i : goal.invariant-loop-i

@@ -1,7 +1,5 @@
 -- `spacings::main` is safe and ends: the measure is the number of arguments that are left.
 use Prim.Native.Nat.{◌-◌}
-use native.Mathlib.Omega.{arith}
-use borrow.Author.Rules.{rules}
 use Rattle.spacings.proofs.main.Given as goal
 
 abbrev pub invariant-loop-i : goal.invariant-loop-i

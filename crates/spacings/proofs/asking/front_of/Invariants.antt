@@ -1,6 +1,4 @@
 -- `spacings::asking::front_of` is safe and ends: the measure is the number of records that are left.
-use native.Mathlib.Omega.{arith}
-use borrow.Author.Rules.{rules}
 use Rattle.spacings.proofs.asking.front_of.Given as goal
 
 abbrev pub invariant-loop-left : goal.invariant-loop-left

@@ -1,8 +1,6 @@
 -- `spacings::asking::gauged` is safe and ends: the measure is the number of turns that are left, from one that no run uses up, and the buffer keeps its length.
 use mathlib.Core.Path.{◌≡◌}
-use native.Mathlib.Omega.{arith}
 use lib.ListN.{length}
-use borrow.Author.Rules.{rules}
 use Rattle.spacings.proofs.asking.gauged.Given as goal
 
 abbrev pub invariant-loop-turns : goal.invariant-loop-turns

@@ -1,8 +1,6 @@
 -- `spacings::asking::space_from` is safe and ends: the measure is the number of octets that are left.
 use Prim.Native.Nat.{◌-◌}
-use native.Mathlib.Omega.{arith}
 use lib.ListN.{length}
-use borrow.Author.Rules.{rules}
 use Rattle.spacings.proofs.asking.space_from.Given as goal
 
 abbrev pub invariant-loop-i : goal.invariant-loop-i
