@@ -49,6 +49,7 @@ pub struct Spaced {
 }
 
 // The later reading minus the earlier, minus the period, of any readings.
+#[tactic(auto, unfolding(crate::specs::Figures::error_of))]
 pub fn error_of(later: u64, earlier: u64, period: u32) -> Signed
     ensures { result ≡ signed (error_of later earlier period) }
 {
@@ -104,6 +105,7 @@ fn single(e: i64) -> Account
     }
 }
 
+#[tactic(auto, unfolding(crate::specs::Accounts::made))]
 fn make(pairs: Count, least: i64, greatest: i64, sum: Signed, sizes: Count) -> Account
     ensures { result ≡ made pairs least greatest sum sizes }
 {

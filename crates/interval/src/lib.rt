@@ -55,6 +55,7 @@ fn message_event(before: Session, reading: u64, body: &[u8]) -> Event
 }
 
 // A record of the label, by its kind.
+#[tactic(auto, unfolding(crate::specs::Records::own_event))]
 fn own_event(before: Session, r: Record, body: &[u8]) -> Event
     ensures { result ≡ own_event before r body.now }
 {

@@ -22,6 +22,7 @@ pub enum Message {
 
 // Where a message goes wrong, or the octets that it uses, by the reader of its kind; of a DHC message
 // by its header, and behind it its length.
+#[tactic(auto, unfolding(crate::specs::Message::message_place))]
 pub fn place_of(m: &[u8]) -> usize
     ensures { result ≡ message_place m.now }
 {

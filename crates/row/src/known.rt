@@ -59,6 +59,7 @@ fn fault_at(row: &mut [Session], x: Arrival, m: &[u8]) -> Outcome
 }
 
 // A message that arrives on a label.
+#[tactic(auto, unfolding(step::specs::Arriving::receive_at))]
 pub fn receive_at(row: &mut [Session], x: Arrival, m: &[u8]) -> Outcome
     ensures { record { outcome = result; row = row.new } ≡ receive_at row.old x m.now }
 {

@@ -75,6 +75,7 @@ fn same_global_id(a: Key, b: Key) -> bool
 }
 
 // Type, IF_ID and Global_ID; that one identifier is absent says nothing of the other.
+#[tactic(auto, unfolding(crate::specs::Conditions::same_key))]
 pub fn same_key(a: Key, b: Key) -> bool
     ensures { result ≡ same_key a b }
 {

@@ -1,4 +1,5 @@
 use mathlib.Core.Path.{◌≡◌, ◌∙◌}
+use mathlib.Core.Bool.{false}
 use borrow.Author.Rules.{rules}
 use lib.IntN.{ℤ, ◌+ℤ◌}
 use mir.Syntax.{w64}
@@ -29,9 +30,11 @@ returns c =
     to_z-of_z w64 _ (small _ c.least_of-least.type_inv) ∙ c.least_of-least.ensures ∙ rw (to_z-of_z w64 a.least al, to_z-of_z w64 b.least bl) in
     let greatest : ◌≡◌ {A = ℤ} (to_z w64 (of_z w64 c.greatest_of-greatest.result)) (chosen greater a.pairs a.greatest b.pairs b.greatest) =
     to_z-of_z w64 _ (small _ c.greatest_of-greatest.type_inv) ∙ c.greatest_of-greatest.ensures ∙ rw (to_z-of_z w64 a.greatest ag, to_z-of_z w64 b.greatest bg) in
+    let ao : a.over ≡ false = search rules in
+    let bo : b.over ≡ false = search rules in
     let fa : SFits w64 a.sum = search rules in
     let fb : SFits w64 b.sum = search rules in
     let sum : c.sum_in-sum.result ≡ signed (a.sum +ℤ b.sum) = c.sum_in-sum.ensures ∙ rw (to_z-of_z w64 a.sum fa, to_z-of_z w64 b.sum fb) in
     c.make.ensures
     ∙ (λ i. made (c.total-pairs.ensures i) (least i) (greatest i) (sum i) (c.total-sizes.ensures i))
-    ∙ combined-made a b c.if-a.false c.if-b.false al bl ag bg
+    ∙ combined-made a b ao bo al bl ag bg

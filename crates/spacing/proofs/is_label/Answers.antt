@@ -1,4 +1,0 @@
-use Rattle.spacing.proofs.is_label.Goals as goal
-
-pub returns : goal.returns
-returns c = rw (c.both-2.ensures, c.both.ensures)
