@@ -39,7 +39,7 @@ abbrev cut_example : List ℕ
 cut_example =
     84 ∷ 80 ∷ 79 ∷ 0 ∷ 1 ∷ 0 ∷ 0 ∷ 0 ∷ 0 ∷ 0 ∷ 0 ∷ 0 ∷ 0 ∷ 0 ∷ 0 ∷ 0 ∷ 0 ∷ 0 ∷ 0 ∷ 100 ∷ 0 ∷ 1 ∷ 0 ∷ 35 ∷ 0 ∷ 0 ∷ 0 ∷ 17 ∷ 0 ∷ 15 ∷ 66 ∷ 64 ∷ 0 ∷ 1 ∷ 0 ∷ 0 ∷ 0 ∷ 1 ∷ 0 ∷ 0 ∷ 0 ∷ 10 ∷ 0 ∷ 1 ∷ 0 ∷ 1 ∷ 0 ∷ 0 ∷ 0 ∷ 1 ∷ 0 ∷ 0 ∷ 0 ∷ 20 ∷ 0 ∷ 1 ∷ 0 ∷ 1 ∷ 0 ∷ 0 ∷ 0 ∷ 0 ∷ 0 ∷ 0 ∷ 76 ∷ 75 ∷ 64 ∷ 0 ∷ 0 ∷ 0 ∷ 0 ∷ 0 ∷ 0 ∷ 0 ∷ 0 ∷ 0 ∷ 0 ∷ 0 ∷ 0 ∷ 0 ∷ 61 ∷ 9 ∷ 0 ∷ 0 ∷ 0 ∷ 0 ∷ 0 ∷ 0 ∷ 0 ∷ 0 ∷ 0 ∷ 0 ∷ 0 ∷ 0 ∷ 0 ∷ 0 ∷ 0 ∷ 0 ∷ 0 ∷ 0 ∷ 0 ∷ 0 ∷ 100 ∷ 0 ∷ 6 ∷ 0 ∷ 0 ∷ 0 ∷ 0 ∷ 0 ∷ []
 
--- `why 100 held_back`
+-- `why 100 held-back`
 example-text : why_text 100 HeldBack 18446744073709551615 example
     ≡ 119 ∷ 104 ∷ 105 ∷ 99 ∷ 104 ∷ 58 ∷ 32 ∷ 114 ∷ 101 ∷ 99 ∷ 111 ∷ 114 ∷ 100 ∷ 32 ∷ 50 ∷ 32 ∷ 97 ∷ 116 ∷ 32 ∷ 49 ∷ 48 ∷ 48 ∷ 48 ∷ 48 ∷ 48 ∷ 48 ∷ 44 ∷ 32 ∷ 65 ∷ 73 ∷ 83 ∷ 44 ∷ 32 ∷ 114 ∷ 101 ∷ 102 ∷ 114 ∷ 101 ∷ 115 ∷ 104 ∷ 32 ∷ 50 ∷ 48 ∷ 32 ∷ 115 ∷ 44 ∷ 32 ∷ 105 ∷ 110 ∷ 116 ∷ 101 ∷ 114 ∷ 102 ∷ 97 ∷ 99 ∷ 101 ∷ 32 ∷ 49 ∷ 47 ∷ 55 ∷ 10 ∷ 104 ∷ 111 ∷ 119 ∷ 32 ∷ 111 ∷ 108 ∷ 100 ∷ 58 ∷ 32 ∷ 54 ∷ 54 ∷ 46 ∷ 53 ∷ 48 ∷ 48 ∷ 48 ∷ 48 ∷ 48 ∷ 32 ∷ 115 ∷ 10 ∷ 101 ∷ 110 ∷ 100 ∷ 115 ∷ 58 ∷ 32 ∷ 97 ∷ 116 ∷ 32 ∷ 55 ∷ 49 ∷ 48 ∷ 48 ∷ 48 ∷ 48 ∷ 48 ∷ 48 ∷ 44 ∷ 32 ∷ 111 ∷ 114 ∷ 32 ∷ 119 ∷ 104 ∷ 101 ∷ 110 ∷ 32 ∷ 116 ∷ 104 ∷ 101 ∷ 32 ∷ 108 ∷ 111 ∷ 115 ∷ 115 ∷ 32 ∷ 101 ∷ 110 ∷ 100 ∷ 115 ∷ 10 ∷ []
 unfolding why_text answer_words capture_note telling condition_words padded digits past_up_to header_fits record_in next_in settings_in call_of call_in parsed_by parsed cause_of reason_of last_ending last_mark size told-all says says_of act_said open_number rival clock_of story labels late past within settings_fit any only once without received_as same_if_id same_global_id same_key follows_with header_refusal channel_refusal kind_refusal value_length length_fits agi_fits form_refusal agi_refusal mep_refusal mep_fits repeated right_length bad_octet with_tlv tlvs_of range_refusal head_refusal refusal_with fault_refusal fields_with fault_of message_refusal message_of settings_of locked crossing timed_from multiplier_of loss_in state state_at remote_diagnostic remote_of owed stands followed_last keys_of conditions followed defect held report diagnostic

@@ -39,7 +39,7 @@ mep kind local = record { agi = no_agi; global = 1; node = 20; local = local; ki
 abbrev interface_key : ℕ → ℕ → ℕ → Key
 interface_key node interface carrier = record { node = node; interface = interface; global = 7; kind = 1; present = 1; carrier = carrier }
 
--- open 100 at 0, `ais refresh=20 if=1/7` at 1,000,000, clock 67,500,000: `why 100 held_back`
+-- open 100 at 0, `ais refresh=20 if=1/7` at 1,000,000, clock 67,500,000: `why 100 held-back`
 held-back-words : telling (accepted (record { number = 2; reading = 1000000; age = 66500000; end = 71000000 })) (condition_words (interface_key 1 7 0) 20 false) 100 HeldBack
     ≡ 119 ∷ 104 ∷ 105 ∷ 99 ∷ 104 ∷ 58 ∷ 32 ∷ 114 ∷ 101 ∷ 99 ∷ 111 ∷ 114 ∷ 100 ∷ 32 ∷ 50 ∷ 32 ∷ 97 ∷ 116 ∷ 32 ∷ 49 ∷ 48 ∷ 48 ∷ 48 ∷ 48 ∷ 48 ∷ 48 ∷ 44 ∷ 32 ∷ 65 ∷ 73 ∷ 83 ∷ 44 ∷ 32 ∷ 114 ∷ 101 ∷ 102 ∷ 114 ∷ 101 ∷ 115 ∷ 104 ∷ 32 ∷ 50 ∷ 48 ∷ 32 ∷ 115 ∷ 44 ∷ 32 ∷ 105 ∷ 110 ∷ 116 ∷ 101 ∷ 114 ∷ 102 ∷ 97 ∷ 99 ∷ 101 ∷ 32 ∷ 49 ∷ 47 ∷ 55 ∷ 10 ∷ 104 ∷ 111 ∷ 119 ∷ 32 ∷ 111 ∷ 108 ∷ 100 ∷ 58 ∷ 32 ∷ 54 ∷ 54 ∷ 46 ∷ 53 ∷ 48 ∷ 48 ∷ 48 ∷ 48 ∷ 48 ∷ 32 ∷ 115 ∷ 10 ∷ 101 ∷ 110 ∷ 100 ∷ 115 ∷ 58 ∷ 32 ∷ 97 ∷ 116 ∷ 32 ∷ 55 ∷ 49 ∷ 48 ∷ 48 ∷ 48 ∷ 48 ∷ 48 ∷ 48 ∷ 44 ∷ 32 ∷ 111 ∷ 114 ∷ 32 ∷ 119 ∷ 104 ∷ 101 ∷ 110 ∷ 32 ∷ 116 ∷ 104 ∷ 101 ∷ 32 ∷ 108 ∷ 111 ∷ 115 ∷ 115 ∷ 32 ∷ 101 ∷ 110 ∷ 100 ∷ 115 ∷ 10 ∷ []
 unfolding telling mep_words message_words condition_words padded digits

@@ -69,7 +69,7 @@ word_crossing = 99 ∷ 114 ∷ 111 ∷ 115 ∷ 115 ∷ 105 ∷ 110 ∷ 103 ∷ [
 abbrev pub word_loss : List ℕ
 word_loss = 108 ∷ 111 ∷ 115 ∷ 115 ∷ []
 
--- `held_back`
+-- `held-back`
 abbrev pub word_held_back : List ℕ
 word_held_back = 104 ∷ 101 ∷ 108 ∷ 100 ∷ 45 ∷ 98 ∷ 97 ∷ 99 ∷ 107 ∷ []
 

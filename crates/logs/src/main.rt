@@ -2,8 +2,8 @@
 // label's index are filled in from the log beside the file, and the reading is asked for. One line is
 // printed for each log; where an answer differs, what was asked and what came are printed.
 //
-// It asks by the parts of `indexing`: `build` and `ask` borrow a row of records, and code that lends one
-// needs a walk by hand. The answers were worked out by hand, and the second program gives them too.
+// It asks by the parts of `indexing`, which lend no row of records. The answers were worked out by hand,
+// and the second program gives them too.
 #![tactic(auto)]
 
 mod asking;

@@ -32,7 +32,7 @@ pub record Demand3 (row : List Session) (cs : List Call) : Type 0 where
   -- after the list, the report on every open label is what its story means at the clock
   pub reports : (l : ℕ) (s : Story) → story l (past_of row cs) ≡ some s
       → answer (table_after row cs) (On l ReportOn) ≡ reporting (report (clock_of (past_of row cs)) s)
-  -- of the table's own report on an open label after the list: it shows a crossing, a loss, a held_back alarm (loss 1 and alarm 0)
+  -- of the table's own report on an open label after the list: it shows a crossing, a loss, a held-back alarm (loss 1 and alarm 0)
   -- exactly when an accepted call accounts for it
   pub crossing : (l : ℕ) → is_open (story l (past_of row cs)) ≡ true
       → ((report_on (table_after row cs) l).crossing ≡ 1) ↔ ((p : ℕ) × AccountsForCrossing (past_of row cs) l (clock_of (past_of row cs)) p)
@@ -44,7 +44,7 @@ pub record Demand3 (row : List Session) (cs : List Call) : Type 0 where
   -- the number of conditions shown is that of the keys so accounted for: there is a list of exactly these, and the number is its length
   pub conditions : (l : ℕ) → is_open (story l (past_of row cs)) ≡ true
       → (keys : List Key) × AccountedKeys (past_of row cs) l (clock_of (past_of row cs)) keys × ((report_on (table_after row cs) l).conditions ≡ length keys)
-  -- every message that accounts for a held_back alarm is less than 70 seconds old
+  -- every message that accounts for a held-back alarm is less than 70 seconds old
   pub fresh : (l p : ℕ) (held : AccountsForHeldBack (past_of row cs) l (clock_of (past_of row cs)) p)
       → clock_of (past_of row cs) < held.condition.1.reading + 70000000
   -- the states are those that TIMER leaves when it is given to every session at every accepted reading
