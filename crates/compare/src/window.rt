@@ -1,6 +1,6 @@
 // A file in constant memory: the octets of it that are at hand, in a lent buffer.
 ghost use Rattle.std.specs.Prelude.{◌≡◌};
-ghost use Rattle.compare.specs.Windows.{left_in, seen_in, sum, further_by};
+ghost use Rattle.compare.specs.Windows.{first, left_in, seen_in, sum, further_by};
 
 use std::fs::File;
 use std::io;
@@ -49,7 +49,9 @@ pub fn left(w: Window) -> usize
 }
 
 // A file before its first octet.
-pub fn first() -> Window {
+pub fn first() -> Window
+    ensures { result ≡ first }
+{
     Window {
         from: 0,
         to: 0,

@@ -30,6 +30,7 @@ use Rattle.capture.proofs.LineSaid.{is_plain, has_place, line_refused, line_plai
 use Rattle.feed.specs.Feeding.{longest, more_of, head_of, Flow, call_next, turn_of, go_on, feed_of}
 use Rattle.feed.specs.Calling.{body_at, Whole as Lengths, Calls, is_unread, refused_line, line_by, behind_of, Answered, answered}
 use Rattle.feed.specs.declared.Fed.{Fed}
+use Rattle.feed.proofs.Going
 
 both : (t u : Bool) → Holds (t && u) → Holds t × Holds u
 both true u h = (tt, h)
@@ -311,3 +312,16 @@ goes_on_lem input n x h = ap (λ (t : Bool). cond t (go_on input n (turn_of inpu
 pub begins : (row : List Session) (f : Fed) (input out : List ℕ) → go_on input (length input) (flow row f out) ≡ feed_of row f input out
 unfolding feed_of
 begins row f input out = refl
+
+-- ---- the loop, as its invariant has it: what `Going` says of any such loop, of this one
+abbrev pub order-of : Flow → Bool
+order-of x = in_order (table_of x.row x.fed.head)
+
+abbrev pub used-of : Flow → ℕ
+used-of x = x.fed.used
+
+abbrev pub end-of : List ℕ → Flow → Flow
+end-of input z = feed_of z.row z.fed input z.out
+
+abbrev pub After : Bool → List ℕ → Flow → Flow → Type 0
+After mark input z x = Going.After (length input) used-of order-of (go_on input) (end-of input) mark z x

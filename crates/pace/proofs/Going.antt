@@ -1,14 +1,15 @@
--- The loop of the pacing, as its invariant has it: some number of turns of the definition is left, and that many are enough for what is left of the input.
+-- The loop of the pacing, as its invariant has it: what `feed/proofs/Going` says of any such loop, of this one.
 -- Assumes nothing.
-use mathlib.Core.Path.{◌≡◌, sym, ap, subst, ◌∙◌}
+use mathlib.Core.Path.{◌≡◌, sym, subst}
 use mathlib.Core.Bool.{Bool, true, false, not}
-use Prim.Native.Nat.{ℕ, suc, ◌<◌, ◌≤◌, ◌+◌, ◌-◌}
+use Prim.Native.Nat.{ℕ, ◌<◌, ◌≤◌, ◌+◌, ◌-◌}
 use mathlib.Core.List.{List}
 use native.Mathlib.Omega.{arith}
 use lib.Dec.{T as Holds}
 use lib.ListN.{length}
 use Rattle.table.specs.Table.{in_order}
 use Rattle.step.specs.Stepping.{table_of}
+use Rattle.feed.proofs.Going
 use Rattle.pace.specs.Pacing.{Trail, more_of, turn_of, go_on, pace_of}
 use Rattle.pace.specs.Calling.{Turns}
 use Rattle.pace.proofs.Turns.{stands, turn-mark, stops, goes_on_lem, begins}
@@ -17,12 +18,18 @@ use Rattle.pace.proofs.Turns.{stands, turn-mark, stops, goes_on_lem, begins}
 abbrev pub order-of : Trail → Bool
 order-of x = in_order (table_of x.row x.pacing.fed.head)
 
+abbrev used-of : Trail → ℕ
+used-of x = x.pacing.fed.used
+
+abbrev end-of : List ℕ → Trail → Trail
+end-of input z = pace_of z.row z.pacing input
+
 -- where the mark was right at z it is right at x, and what is left to do gives what the whole gives
 abbrev pub After : Bool → List ℕ → Trail → Trail → Type 0
-After mark input z x = (n : ℕ) × (length input ≤ x.pacing.fed.used + n) × (mark ≡ order-of z → (mark ≡ order-of x) × (go_on input n x ≡ pace_of z.row z.pacing input))
+After mark input z x = Going.After (length input) used-of order-of (go_on input) (end-of input) mark z x
 
 pub at_first : (mark : Bool) (input : List ℕ) (z : Trail) → After mark input z z
-at_first mark input z = (length input, omega arith, λ right. (right, begins z.row z.pacing input))
+at_first mark input z = Going.at_first (length input) used-of order-of (go_on input) (end-of input) mark z (begins z.row z.pacing input)
 
 -- a test that held
 stood : (b : Bool) → b ≡ true → Holds b
@@ -30,30 +37,21 @@ stood b e = subst Holds (sym e) tt
 
 -- a turn, where there is more
 module _ (mark : Bool) (input : List ℕ) (x y : Trail) (more : more_of x.pacing input ≡ true) (turned : Turns x.row mark x.pacing input y.pacing y.row) where
+  holds : Holds (more_of x.pacing input)
+  holds = stood (more_of x.pacing input) more
+
+  there : used-of x < length input
+  there = omega (arith, (stands x.pacing input holds).0)
+
   -- it comes nearer to the end of the input
   pub goes-nearer : length input - y.pacing.fed.used < length input - x.pacing.fed.used
-  goes-nearer =
-      let there : x.pacing.fed.used + 16 ≤ length input = (stands x.pacing input (stood (more_of x.pacing input) more)).0 in
-      let takes : x.pacing.fed.used < y.pacing.fed.used = (turned more).0 in
-      omega arith
+  goes-nearer = omega (arith, there, (turned more).0)
 
   pub goes_one : (z : Trail) → After mark input z x → After mark input z y
-  goes_one z after =
-      let h : Holds (more_of x.pacing input) = stood (more_of x.pacing input) more in
-      let there : x.pacing.fed.used + 16 ≤ length input = (stands x.pacing input h).0 in
-      let takes : x.pacing.fed.used < y.pacing.fed.used = (turned more).0 in
-      let n : ℕ = after.0 in
-      let enough : length input ≤ x.pacing.fed.used + n = after.1 in
-      let some_left : n ≡ suc (n - 1) = omega (arith, there, enough) in (
-        n - 1,
-        omega (arith, takes, there, enough),
-        λ right.
-            let same : y ≡ turn_of input x = (turned more).1 (after.2 right).0 in (
-              (after.2 right).0 ∙ sym (turn-mark input x) ∙ sym (ap order-of same),
-              ap (go_on input (n - 1)) same ∙ sym (goes_on_lem input (n - 1) x h) ∙ ap (λ (k : ℕ). go_on input k x) (sym some_left) ∙ (after.2 right).1,
-            ),
-      )
+  goes_one =
+      Going.goes_one (length input) used-of order-of (go_on input) (end-of input) mark (turn_of input) x y there (turned more).0 (turned more).1 (turn-mark input x) (λ n. goes_on_lem input n x holds)
 
 -- no more is done
 pub at-end : (mark : Bool) (input : List ℕ) (z x : Trail) → After mark input z x → more_of x.pacing input ≡ false → mark ≡ order-of z → x ≡ pace_of z.row z.pacing input
-at-end mark input z x after none right = sym (stops input after.0 x (subst (λ (b : Bool). Holds (not b)) (sym none) tt)) ∙ (after.2 right).1
+at-end mark input z x after none =
+    Going.at-end (length input) used-of order-of (go_on input) (end-of input) mark z x after (λ n. stops input n x (subst (λ (b : Bool). Holds (not b)) (sym none) tt))
