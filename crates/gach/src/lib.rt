@@ -1,12 +1,12 @@
 // The associated channel header in front of every message (RFC 6428, 3.3).
 #![tactic(auto)]
 
-ghost use Rattle.std.specs.Prelude.{◌≡◌};
-ghost use Rattle.octets.specs.Choice.{answer};
+ghost use Rattle.octets.specs.Refusals.{refusal_in};
+ghost use Rattle.std.specs.Prelude.{◌≡◌, ◌/◌, ◌%◌, ◌&&◌, eqb};
 ghost use Rattle.gach.specs.Header.{header_refusal, channel_refusal, header_place, channel_place};
 ghost use Rattle.gach.specs.Kinds.{said, kind_refusal, read_kind};
 
-use octets::{get_u8, get_u16, need, or_else};
+use octets::{Refusal, get_u16};
 
 pub const CC_CHANNEL: u16 = 0x0022;
 
@@ -14,84 +14,80 @@ pub const CV_CHANNEL: u16 = 0x0023;
 
 pub const FAULT_CHANNEL: u16 = 0x0058;
 
-// What a message is by its header, or the refusal.
-#[derive(Clone, Copy)]
+// What a message is by its header.
+#[derive(Clone, Copy, Debug, PartialEq, Eq)]
 pub enum Kind {
     ContinuityCheck,
     ConnectivityVerification,
     Fault,
-    Refused(u32),
 }
 
-// 3 for under 4 octets, 4 for another first nibble or version, else 0.
-pub fn header_refusal(m: &[u8]) -> u32
-    ensures { result ≡ header_refusal m.now }
+// The first octet of a header: nibble 0001, version 0.
+fn opens_channel(first: u8) -> bool
+    ensures { result ≡ (eqb (first / 16) 1 && eqb (first % 16) 0) }
+{
+    first / 16 == 1 && first % 16 == 0
+}
+
+// 3 for under 4 octets, 4 for another first nibble or version.
+#[tactic(auto, unfolding(crate::specs::Header::header_refusal))]
+pub fn header_refusal(m: &[u8]) -> Result<(), Refusal>
+    ensures { refusal_in result ≡ header_refusal m.now }
 {
     if m.len() < 4 {
-        return 3;
+        return Err(Refusal::TooShort);
     }
-    let first = get_u8(m, 0);
-    if first / 16 != 1 {
-        return 4;
+    if !opens_channel(m[0]) {
+        return Err(Refusal::Header);
     }
-    need(first % 16 == 0, 4, 0)
+    Ok(())
 }
 
 // The header's refusal, then 5 for a channel that is not the reader's own.
-pub fn channel_refusal(m: &[u8], channel: u16) -> u32
-    ensures { result ≡ channel_refusal channel m.now }
+#[tactic(auto, unfolding(crate::specs::Header::channel_refusal))]
+pub fn channel_refusal(m: &[u8], channel: u16) -> Result<(), Refusal>
+    ensures { refusal_in result ≡ channel_refusal channel m.now }
 {
-    or_else(header_refusal(m), need(get_u16(m, 2) == channel, 5, 0))
+    header_refusal(m)?;
+    if get_u16(m, 2) != channel {
+        return Err(Refusal::Channel);
+    }
+    Ok(())
 }
 
 // Where the header goes wrong: the length for 3, octet 0 for 4; else `rest`.
+#[tactic(auto, unfolding(crate::specs::Header::header_place))]
 pub fn header_place(m: &[u8], rest: usize) -> usize
     ensures { result ≡ header_place m.now rest }
 {
     if m.len() < 4 {
         return m.len();
     }
-    let first = get_u8(m, 0);
-    if first / 16 != 1 {
-        return 0;
-    }
-    if first % 16 != 0 {
+    if !opens_channel(m[0]) {
         return 0;
     }
     rest
 }
 
 // The same, and the channel type's place for one that is not the reader's own.
+#[tactic(auto, unfolding(crate::specs::Header::channel_place))]
 pub fn channel_place(m: &[u8], channel: u16, rest: usize) -> usize
     ensures { result ≡ channel_place channel m.now rest }
 {
-    if get_u16(m, 2) == channel {
-        return header_place(m, rest);
-    }
-    header_place(m, 2)
-}
-
-fn kind_by(header: u32, channel: u16) -> Kind
-    ensures { said result ≡ answer (kind_refusal header channel) channel }
-{
-    if header != 0 {
-        return Kind::Refused(header);
-    }
-    if channel == CC_CHANNEL {
-        return Kind::ContinuityCheck;
-    }
-    if channel == CV_CHANNEL {
-        return Kind::ConnectivityVerification;
-    }
-    if channel == FAULT_CHANNEL {
-        return Kind::Fault;
-    }
-    Kind::Refused(5)
+    let behind = if get_u16(m, 2) == channel { rest } else { 2 };
+    header_place(m, behind)
 }
 
 // Which of the three kinds a message is; 3, 4 or 5 where it is none.
-pub fn kind_of(m: &[u8]) -> Kind
+#[tactic(auto, unfolding(crate::specs::Kinds::kind_refusal, crate::specs::Kinds::read_kind))]
+pub fn kind_of(m: &[u8]) -> Result<Kind, Refusal>
     ensures { said result ≡ read_kind m.now }
 {
-    kind_by(header_refusal(m), get_u16(m, 2))
+    header_refusal(m)?;
+    match get_u16(m, 2) {
+        CC_CHANNEL => Ok(Kind::ContinuityCheck),
+        CV_CHANNEL => Ok(Kind::ConnectivityVerification),
+        FAULT_CHANNEL => Ok(Kind::Fault),
+        _ => Err(Refusal::Channel),
+    }
 }
