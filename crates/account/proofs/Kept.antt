@@ -5,8 +5,8 @@ use mathlib.Core.Bool.{Bool, true, false, cond, ◌&&◌}
 use Prim.Native.Nat.{ℕ}
 use lib.IntN.{ℤ, pos}
 use Rattle.account.specs.declared.Account.{Account}
-use Rattle.account.specs.declared.Count.{Count}
-use Rattle.account.specs.declared.Signed.{Signed}
+use Rattle.account.specs.Accounts.{Count}
+use Rattle.account.specs.Accounts.{Signed}
 use Rattle.account.specs.Figures.{fits}
 use Rattle.account.specs.Accounts.{signed, counted, spent, made}
 

@@ -1,11 +1,34 @@
 -- The account that is kept: the five numbers while they fit, and a mark that stays where they do not. It refuses nothing; 21 is said where it is finished.
 -- Assumes nothing.
-use Rattle.std.specs.Prelude.{ℕ, ◌+◌, Bool, true, false, cond, ◌&&◌, ltb, ℤ, pos}
+use Rattle.std.specs.Prelude.{ℕ, ◌+◌, Bool, true, false, cond, not, ◌&&◌, eqb, ltb, ℤ, pos, Option, Some, None, Result, Ok, Err}
+use Rattle.octets.specs.Refusals.{number_of}
+use Rattle.octets.specs.declared.refusals.Refusal.{Refusal}
 use Rattle.account.specs.declared.Account.{Account}
-use Rattle.account.specs.declared.Count.{Count}
-use Rattle.account.specs.declared.Signed.{Signed}
-use Rattle.account.specs.declared.Spaced.{Spaced}
-use Rattle.account.specs.Figures.{Exact, none, one, joined, fits, fit, refused, finished}
+use Rattle.account.specs.declared.Spacing.{Spacing}
+use Rattle.account.specs.Figures.{Exact, Spaced, none, one, joined, fits, fit, refused, finished}
+
+-- a signed number, 0 where it does not fit
+pub record Signed : Type 0 where
+  pub value : ℤ
+  pub fits : Bool
+
+-- a number from 0 to the greatest signed one, 0 where it does not fit
+pub record Count : Type 0 where
+  pub value : ℕ
+  pub fits : Bool
+
+abbrev pub signed_in : Option ℤ → Signed
+signed_in None = record { value = pos 0; fits = false }
+signed_in (Some z) = record { value = z; fits = true }
+
+abbrev pub counted_in : Option ℕ → Count
+counted_in None = record { value = 0; fits = false }
+counted_in (Some n) = record { value = n; fits = true }
+
+abbrev pub spaced_in : Result Spacing Refusal → Spaced
+spaced_in (Ok s) =
+    record { answer = 0; pairs = s.pairs; least = s.least; greatest = s.greatest; sum = s.sum; sizes = s.sizes; paired = not (eqb s.pairs 0) }
+spaced_in (Err r) = record { answer = number_of r; pairs = 0; least = pos 0; greatest = pos 0; sum = pos 0; sizes = 0; paired = false }
 
 -- a number that is kept only where it fits
 abbrev pub signed : ℤ → Signed

@@ -2,7 +2,6 @@
 -- Assumes nothing.
 use Rattle.std.specs.Prelude.{ℕ, ◌+◌, List, [], ◌∷◌, Bool, true, false, cond, not, ◌&&◌, ltb, eqb, ℤ, pos, nat_abs, ◌+ℤ◌, ◌-ℤ◌}
 use Rattle.std.specs.Int.Signed.{lt_z, mag}
-use Rattle.account.specs.declared.Spaced.{Spaced}
 
 -- the later reading minus the earlier, minus the period
 unfoldable pub error_of : ℕ → ℕ → ℕ → ℤ
@@ -57,6 +56,16 @@ fits z = ltb (mag z) 9223372036854775808
 -- each of the five does
 unfoldable pub fit : Exact → Bool
 fit x = fits (pos x.pairs) && (fits x.least && (fits x.greatest && (fits x.sum && fits (pos x.sizes))))
+
+-- the five numbers under answer 0, or 21; paired: there is a least and a greatest
+pub record Spaced : Type 0 where
+  pub answer : ℕ
+  pub pairs : ℕ
+  pub least : ℤ
+  pub greatest : ℤ
+  pub sum : ℤ
+  pub sizes : ℕ
+  pub paired : Bool
 
 -- what is given: the mark says whether there is a least and a greatest
 abbrev pub given : Exact → Spaced

@@ -6,26 +6,14 @@ mod numbers;
 
 ghost use Rattle.std.specs.Prelude.{◌≡◌};
 ghost use Rattle.account.specs.Figures.{error_of, none, one};
-ghost use Rattle.account.specs.Accounts.{signed, kept, spent, made, combined, added, finished_of};
+ghost use Rattle.account.specs.Accounts.{signed, signed_in, counted_in, spaced_in, kept, spent, made, combined, added, finished_of};
 
 pub use numbers::size_of;
 use numbers::{MOST, greatest_of, least_of, negative, positive, sum_in, total};
+use octets::Refusal;
 
-// A signed number, 0 where it does not fit.
-#[derive(Clone, Copy)]
-pub struct Signed {
-    pub value: i64,
-    pub fits: bool,
-}
-
-// A number from 0 to the greatest signed one, 0 where it does not fit.
-#[derive(Clone, Copy)]
-pub struct Count {
-    pub value: u64,
-    pub fits: bool,
-}
-
-// What is counted over the pairs so far. over: a number does not fit.
+// What is counted over the pairs so far. over: a number does not fit; a mark and no Option, since what is kept beside a table
+// (`Pacing`) is said of every field.
 #[derive(Clone, Copy)]
 pub struct Account {
     pub pairs: u64,
@@ -36,22 +24,20 @@ pub struct Account {
     pub over: bool,
 }
 
-// The five numbers under answer 0, or 21. paired: there is a least and a greatest.
-#[derive(Clone, Copy)]
-pub struct Spaced {
-    pub answer: u32,
+// The five numbers of a finished account. Where there is no pair there is no least and no greatest.
+#[derive(Clone, Copy, Debug, PartialEq, Eq)]
+pub struct Spacing {
     pub pairs: u64,
     pub least: i64,
     pub greatest: i64,
     pub sum: i64,
     pub sizes: u64,
-    pub paired: bool,
 }
 
 // The later reading minus the earlier, minus the period, of any readings.
 #[tactic(auto, unfolding(crate::specs::Figures::error_of))]
-pub fn error_of(later: u64, earlier: u64, period: u32) -> Signed
-    ensures { result ≡ signed (error_of later earlier period) }
+pub fn error_of(later: u64, earlier: u64, period: u32) -> Option<i64>
+    ensures { signed_in result ≡ signed (error_of later earlier period) }
 {
     let p = period as u64;
     if later < earlier {
@@ -94,41 +80,47 @@ fn overrun() -> Account
 fn single(e: i64) -> Account
     ensures { result ≡ kept (one e) }
 {
-    let size = size_of(e);
     Account {
         pairs: 1,
         least: e,
         greatest: e,
         sum: e,
-        sizes: size,
+        sizes: size_of(e),
         over: false,
     }
 }
 
 #[tactic(auto, unfolding(crate::specs::Accounts::made))]
-fn make(pairs: Count, least: i64, greatest: i64, sum: Signed, sizes: Count) -> Account
-    ensures { result ≡ made pairs least greatest sum sizes }
+fn make(
+    pairs: Option<u64>,
+    least: i64,
+    greatest: i64,
+    sum: Option<i64>,
+    sizes: Option<u64>,
+) -> Account
+    ensures { result ≡ made (counted_in pairs) least greatest (signed_in sum) (counted_in sizes) }
 {
-    if !pairs.fits {
+    let Some(pairs) = pairs else {
         return overrun();
-    }
-    if !sum.fits {
+    };
+    let Some(sum) = sum else {
         return overrun();
-    }
-    if !sizes.fits {
+    };
+    let Some(sizes) = sizes else {
         return overrun();
-    }
+    };
     Account {
-        pairs: pairs.value,
-        least: least,
-        greatest: greatest,
-        sum: sum.value,
-        sizes: sizes.value,
+        pairs,
+        least,
+        greatest,
+        sum,
+        sizes,
         over: false,
     }
 }
 
 // Two accounts as one.
+#[tactic(auto, unfolding(crate::specs::Accounts::combined))]
 pub fn combine(a: Account, b: Account) -> Account
     ensures { result ≡ combined a b }
 {
@@ -147,45 +139,35 @@ pub fn combine(a: Account, b: Account) -> Account
 }
 
 // One pair more, by its readings and the period.
+#[tactic(auto, unfolding(crate::specs::Accounts::added, crate::specs::Figures::error_of))]
 pub fn add_pair(a: Account, later: u64, earlier: u64, period: u32) -> Account
     ensures { result ≡ added a (error_of later earlier period) }
 {
-    let e = error_of(later, earlier, period);
-    if e.fits {
-        return combine(a, single(e.value));
+    match error_of(later, earlier, period) {
+        Some(e) => combine(a, single(e)),
+        None => overrun(),
     }
-    overrun()
 }
 
 // The five numbers, or 21.
-pub fn finish(a: Account) -> Spaced
-    ensures { result ≡ finished_of a }
+#[tactic(auto, unfolding(crate::specs::Accounts::finished_of))]
+pub fn finish(a: Account) -> Result<Spacing, Refusal>
+    ensures { spaced_in result ≡ finished_of a }
 {
-    let refusal = Spaced {
-        answer: 21,
-        pairs: 0,
-        least: 0,
-        greatest: 0,
-        sum: 0,
-        sizes: 0,
-        paired: false,
-    };
     if a.over {
-        return refusal;
+        return Err(Refusal::NoFit);
     }
     if a.pairs > MOST {
-        return refusal;
+        return Err(Refusal::NoFit);
     }
     if a.sizes > MOST {
-        return refusal;
+        return Err(Refusal::NoFit);
     }
-    Spaced {
-        answer: 0,
+    Ok(Spacing {
         pairs: a.pairs,
         least: a.least,
         greatest: a.greatest,
         sum: a.sum,
         sizes: a.sizes,
-        paired: a.pairs != 0,
-    }
+    })
 }

@@ -3,29 +3,17 @@ ghost use Rattle.std.specs.Prelude.{◌≡◌, ◌+◌, ◌<◌, ◌^◌, pos, n
 ghost use Rattle.std.specs.Int.{w64};
 ghost use Rattle.std.proofs.Common.{SFits};
 ghost use Rattle.account.specs.Figures.{lesser, greater, chosen, fits};
-ghost use Rattle.account.specs.Accounts.{signed, counted};
-
-use crate::{Count, Signed};
+ghost use Rattle.account.specs.Accounts.{signed, signed_in, counted, counted_in};
 
 pub const MOST: u64 = 9223372036854775807;
 
-const GREATEST: i64 = 9223372036854775807;
-
-const LEAST: i64 = -9223372036854775807 - 1;
-
-pub fn positive(n: u64) -> Signed
-    ensures { result ≡ signed (pos n) }
+pub fn positive(n: u64) -> Option<i64>
+    ensures { signed_in result ≡ signed (pos n) }
 {
     if n > MOST {
-        return Signed {
-            value: 0,
-            fits: false,
-        };
+        return None;
     }
-    Signed {
-        value: n as i64,
-        fits: true,
-    }
+    Some(n as i64)
 }
 
 fn below_zero(n: u64) -> i64
@@ -36,28 +24,17 @@ fn below_zero(n: u64) -> i64
 }
 
 // What lies so far below 0: the distance is a sum.
-pub fn negative(m: u64, n: u64) -> Signed
-    ensures { result ≡ signed (pos 0 -ℤ pos (m + n)) }
+pub fn negative(m: u64, n: u64) -> Option<i64>
+    ensures { signed_in result ≡ signed (pos 0 -ℤ pos (m + n)) }
 {
-    let none = Signed {
-        value: 0,
-        fits: false,
-    };
-    if m > MOST + 1 {
-        return none;
-    }
-    if n > MOST + 1 - m {
-        return none;
+    if m > MOST + 1 || n > MOST + 1 - m {
+        return None;
     }
     let size = m + n;
     if size == 0 {
         return positive(0);
     }
-    let value = below_zero(size - 1);
-    Signed {
-        value: value,
-        fits: true,
-    }
+    Some(below_zero(size - 1))
 }
 
 pub fn size_of(e: i64) -> u64
@@ -70,32 +47,22 @@ pub fn size_of(e: i64) -> u64
 }
 
 // The sum of two counts.
-pub fn total(a: u64, b: u64) -> Count
-    ensures { result ≡ counted (a + b) }
+pub fn total(a: u64, b: u64) -> Option<u64>
+    ensures { counted_in result ≡ counted (a + b) }
 {
-    let none = Count {
-        value: 0,
-        fits: false,
-    };
-    if a > MOST {
-        return none;
+    if a > MOST || b > MOST - a {
+        return None;
     }
-    if b > MOST - a {
-        return none;
-    }
-    Count {
-        value: a + b,
-        fits: true,
-    }
+    Some(a + b)
 }
 
 fn has_room(a: i64, b: i64) -> bool
     ensures { result ≡ fits (a +ℤ b) }
 {
     if b < 0 {
-        return a >= LEAST - b;
+        return a >= i64::MIN - b;
     }
-    a <= GREATEST - b
+    a <= i64::MAX - b
 }
 
 fn sum_of(a: i64, b: i64) -> i64
@@ -106,19 +73,13 @@ fn sum_of(a: i64, b: i64) -> i64
 }
 
 // The sum of two signed numbers.
-pub fn sum_in(a: i64, b: i64) -> Signed
-    ensures { result ≡ signed (a +ℤ b) }
+pub fn sum_in(a: i64, b: i64) -> Option<i64>
+    ensures { signed_in result ≡ signed (a +ℤ b) }
 {
     if has_room(a, b) {
-        let sum = sum_of(a, b);
-        return Signed {
-            value: sum,
-            fits: true,
-        };
-    }
-    Signed {
-        value: 0,
-        fits: false,
+        Some(sum_of(a, b))
+    } else {
+        None
     }
 }
 

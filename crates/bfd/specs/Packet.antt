@@ -2,10 +2,7 @@
 -- Assumes nothing.
 use Rattle.std.specs.Prelude.{ℕ, ◌/◌, ◌%◌, ◌^◌, ◌<◌, List, get_or, eqb}
 use Rattle.octets.specs.Numbers.{number_at}
-use Rattle.octets.specs.Choice.{accepted, refused, Placed}
 use Rattle.bfd.specs.declared.Packet.{Packet}
-use Rattle.bfd.specs.declared.CcAnswer.{CcAnswer}
-use Rattle.bfd.specs.declared.CcAnswer.TheVariants.{Read, Refused}
 
 -- version (3 bits) and diagnostic (5)
 abbrev pub version_octet : List ℕ → ℕ
@@ -35,11 +32,6 @@ packet_of m =
       receive = number_at 4 m 20;
       echo = number_at 4 m 24;
     }
-
--- the paper's number, values and place for each case of the CC reader's answer
-abbrev pub said : CcAnswer → Placed Packet
-said (Read p place) = record { answer = accepted p; place = place }
-said (Refused n place) = record { answer = refused n; place = place }
 
 -- the fields that are octets and 32-bit numbers in the code, as its types have them
 pub record Sized (p : Packet) : Type 0 where

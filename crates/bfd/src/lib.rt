@@ -11,7 +11,7 @@ pub use write::{cc_field_refusal, field_refusal, packet_octets, write_cc};
 
 // The fields of a packet: state 0 ADMIN DOWN, 1 DOWN, 2 INIT, 3 UP; the flags P, F, C and D; both
 // discriminators; the desired transmit, required receive and required echo intervals.
-#[derive(Clone, Copy)]
+#[derive(Clone, Copy, Debug, PartialEq, Eq)]
 pub struct Packet {
     pub diagnostic: u8,
     pub state: u8,
@@ -25,12 +25,4 @@ pub struct Packet {
     pub transmit: u32,
     pub receive: u32,
     pub echo: u32,
-}
-
-// What reading a CC says, with a place: behind the fields the octets used, behind a refusal where the
-// message went wrong.
-#[derive(Clone, Copy)]
-pub enum CcAnswer {
-    Read(Packet, usize),
-    Refused(u32, usize),
 }

@@ -3,9 +3,10 @@ ghost use Rattle.std.specs.Prelude.{◌≡◌};
 ghost use Rattle.bfd.specs.Reception.{rule_place, your_place, body_place, cc_place};
 
 use gach::CC_CHANNEL;
-use octets::{get_u8, get_u32, least};
+use octets::{get_u8, get_u32};
 
 // The reception rules that hold on both channels.
+#[tactic(auto, unfolding(crate::specs::Reception::rule_place))]
 fn rule_place(version: u8, flags: u8, multiplier: u8, length: u8, my: u32, rest: usize) -> usize
     ensures { result ≡ rule_place version flags multiplier length my rest }
 {
@@ -31,40 +32,30 @@ fn rule_place(version: u8, flags: u8, multiplier: u8, length: u8, my: u32, rest:
 }
 
 // The rule on Your Discriminator, for CC alone.
+#[tactic(auto, unfolding(crate::specs::Reception::your_place))]
 fn your_place(state: u8, your: u32, rest: usize) -> usize
     ensures { result ≡ your_place state your rest }
 {
-    if your != 0 {
-        return rest;
-    }
-    if state < 2 {
-        return rest;
-    }
-    12
+    if your == 0 && state >= 2 { 12 } else { rest }
 }
 
 // Behind the header, on either BFD channel; else `rest`.
+#[tactic(auto, unfolding(crate::specs::Reception::body_place))]
 pub fn body_place(m: &[u8], rest: usize) -> usize
     ensures { result ≡ body_place m.now rest }
 {
     if m.len() < 28 {
         return m.len();
     }
-    rule_place(
-        get_u8(m, 4),
-        get_u8(m, 5),
-        get_u8(m, 6),
-        get_u8(m, 7),
-        get_u32(m, 8),
-        rest,
-    )
+    rule_place(m[4], m[5], m[6], m[7], get_u32(m, 8), rest)
 }
 
 // Where a CC goes wrong; of an accepted one the octets used.
+#[tactic(auto, unfolding(crate::specs::Reception::cc_place))]
 pub fn cc_place(m: &[u8]) -> usize
     ensures { result ≡ cc_place m.now }
 {
-    let end = least(m.len(), 4 + get_u8(m, 7) as usize);
+    let end = m.len().min(4 + get_u8(m, 7) as usize);
     let your = your_place(get_u8(m, 5) / 64, get_u32(m, 12), end);
     gach::channel_place(m, CC_CHANNEL, body_place(m, your))
 }

@@ -10,10 +10,10 @@ use Rattle.octets.specs.Writing.{Written, writing}
 use Rattle.octets.specs.Choice.{Answer, accepted, refused}
 use Rattle.gach.specs.Header.{header_refusal, channel_refusal}
 use Rattle.coordination.specs.declared.Dhc.{Dhc}
-use Rattle.coordination.specs.declared.PwStatus.{PwStatus}
-use Rattle.coordination.specs.declared.PwStatus.TheVariants.{Absent as NoStatus, Present as AStatus}
-use Rattle.coordination.specs.declared.NodeSwitching.{NodeSwitching}
-use Rattle.coordination.specs.declared.NodeSwitching.TheVariants.{Absent as NoSwitching, Present as ASwitching}
+use Rattle.coordination.specs.Carried.{OptionalStatus}
+use Rattle.coordination.specs.Carried.{NoStatus, AStatus}
+use Rattle.coordination.specs.Carried.{OptionalSwitching}
+use Rattle.coordination.specs.Carried.{NoSwitching, ASwitching}
 use Rattle.coordination.specs.Tlvs.{repeated, wrong_length, wrong_tlv, tlvs_of}
 use Rattle.coordination.specs.Message.{tlvs_refusal, refusal_with, dhc_refusal, status_at, switching_at, dhc_of, read_dhc}
 use Rattle.coordination.specs.Octets.{field_refusal, dhc_octets}
@@ -41,7 +41,7 @@ record Example : Type 0 where
   says : Answer Dhc
 
 -- read, with Dual-Homing Group ID 7
-abbrev reads : List ℕ → PwStatus → NodeSwitching → Example
+abbrev reads : List ℕ → OptionalStatus → OptionalSwitching → Example
 reads given status switching = record { given = given; says = accepted (record { id = 7; status = status; switching = switching }) }
 
 abbrev refuses : List ℕ → ℕ → Example
@@ -144,7 +144,7 @@ unfolding header_refusal channel_refusal repeated wrong_length wrong_tlv tlvs_of
 examples-hold = refl
 
 -- written into so many octets of 170: what is answered, and the buffer afterwards
-abbrev written : PwStatus → NodeSwitching → ℕ → Written
+abbrev written : OptionalStatus → OptionalSwitching → ℕ → Written
 written status switching room =
     writing (field_refusal (record { id = 7; status = status; switching = switching })) (dhc_octets (record { id = 7; status = status; switching = switching }))
     (replicate room 170)

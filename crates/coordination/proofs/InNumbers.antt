@@ -10,10 +10,11 @@ use borrow.Author.Tests.{eqb-true, eqb-false, leb-true}
 use Rattle.octets.specs.Choice.{bit_of, need, bar}
 use Rattle.octets.proofs.Chain.{bit-back, bit-again, need-passed, or_else-passed}
 use Rattle.coordination.specs.declared.Dhc.{Dhc}
-use Rattle.coordination.specs.declared.PwStatus.{PwStatus}
-use Rattle.coordination.specs.declared.PwStatus.TheVariants.{Absent as NoStatus, Present as AStatus}
-use Rattle.coordination.specs.declared.NodeSwitching.{NodeSwitching}
-use Rattle.coordination.specs.declared.NodeSwitching.TheVariants.{Absent as NoSwitching, Present as ASwitching}
+use Rattle.std.specs.Prelude.{Some}
+use Rattle.coordination.specs.Carried.{OptionalStatus}
+use Rattle.coordination.specs.Carried.{NoStatus, AStatus}
+use Rattle.coordination.specs.Carried.{OptionalSwitching}
+use Rattle.coordination.specs.Carried.{NoSwitching, ASwitching}
 use Rattle.coordination.specs.declared.numbers.StatusNumbers.{StatusNumbers}
 use Rattle.coordination.specs.declared.numbers.SwitchingNumbers.{SwitchingNumbers}
 use Rattle.coordination.specs.declared.numbers.DhcNumbers.{DhcNumbers}
@@ -26,15 +27,15 @@ use Rattle.coordination.proofs.Verdict.{decide}
 use Rattle.coordination.proofs.RoundTrip.{read-written}
 
 -- fields in numbers, and back
-status-back : (s : PwStatus) → status_from (status_numbers s) ≡ s
+status-back : (s : OptionalStatus) → status_from (status_numbers s) ≡ s
 status-back NoStatus = refl
-status-back (AStatus destination source pw protection degrade fail) =
-    rw (bit-back protection (bit_of protection) refl, bit-back degrade (bit_of degrade) refl, bit-back fail (bit_of fail) refl)
+status-back (Some st) =
+    rw (bit-back st.protection (bit_of st.protection) refl, bit-back st.degrade (bit_of st.degrade) refl, bit-back st.fail (bit_of st.fail) refl)
 
-switching-back : (s : NodeSwitching) → switching_from (switching_numbers s) ≡ s
+switching-back : (s : OptionalSwitching) → switching_from (switching_numbers s) ≡ s
 switching-back NoSwitching = refl
-switching-back (ASwitching destination source pw switch protection) =
-    rw (bit-back switch (bit_of switch) refl, bit-back protection (bit_of protection) refl)
+switching-back (Some sw) =
+    rw (bit-back sw.switch (bit_of sw.switch) refl, bit-back sw.protection (bit_of sw.protection) refl)
 
 pub dhc-back : (d : Dhc) → dhc_from (dhc_numbers d) ≡ d
 dhc-back d = rw (status-back d.status, switching-back d.switching)

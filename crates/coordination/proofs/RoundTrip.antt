@@ -14,10 +14,11 @@ use Rattle.octets.proofs.Numbers.{read_of, run, of_at, run-all}
 use Rattle.octets.proofs.Chain.{bit-again}
 use Rattle.gach.specs.Header.{header_octets}
 use Rattle.coordination.specs.declared.Dhc.{Dhc}
-use Rattle.coordination.specs.declared.PwStatus.{PwStatus}
-use Rattle.coordination.specs.declared.PwStatus.TheVariants.{Absent as NoStatus, Present as AStatus}
-use Rattle.coordination.specs.declared.NodeSwitching.{NodeSwitching}
-use Rattle.coordination.specs.declared.NodeSwitching.TheVariants.{Absent as NoSwitching, Present as ASwitching}
+use Rattle.std.specs.Prelude.{Some}
+use Rattle.coordination.specs.Carried.{OptionalStatus}
+use Rattle.coordination.specs.Carried.{NoStatus, AStatus}
+use Rattle.coordination.specs.Carried.{OptionalSwitching}
+use Rattle.coordination.specs.Carried.{NoSwitching, ASwitching}
 use Rattle.coordination.specs.declared.tlv.Tlvs.{Tlvs}
 use Rattle.coordination.specs.Tlvs.{repeated, wrong_length, wrong_tlv, step_with, start, tlvs_of}
 use Rattle.coordination.specs.Message.{dhc_channel, tlvs_in, tlvs_refusal, refusal_with, dhc_refusal, low_bit, next_bit, status_at, switching_at, fields_with, dhc_of, read_dhc}
@@ -100,7 +101,7 @@ module _ (m : List ℕ) (a b c : ℕ) where
   unfolding switching_at
   switching-is at s p n x y z v = rw (n, x, y, z, v, next-two s p, low-two s p)
 
-same-fields : {a b : ℕ} {s s' : PwStatus} {w w' : NodeSwitching} → a ≡ b → s ≡ s' → w ≡ w'
+same-fields : {a b : ℕ} {s s' : OptionalStatus} {w w' : OptionalSwitching} → a ≡ b → s ≡ s' → w ≡ w'
     → ◌≡◌ {A = Dhc} (record { id = a; status = s; switching = w }) (record { id = b; status = s'; switching = w' })
 same-fields x y z = cc
 
@@ -113,7 +114,7 @@ unfolding switching_at
 no-switching m = refl
 
 module _ (id : ℕ) (pad : List ℕ) where
-  abbrev dhc : PwStatus → NodeSwitching → Dhc
+  abbrev dhc : OptionalStatus → OptionalSwitching → Dhc
   dhc s w = record { id = id; status = s; switching = w }
 
   -- the twelve octets before the TLVs
@@ -128,49 +129,49 @@ module _ (id : ℕ) (pad : List ℕ) where
         fits = omega arith;
       }
 
-  back : (s : PwStatus) (w : NodeSwitching) → id < 256 ^ 4 → SizedStatus s → SizedSwitching w → tlvs_needed s w ≡ 0
+  back : (s : OptionalStatus) (w : OptionalSwitching) → id < 256 ^ 4 → SizedStatus s → SizedSwitching w → tlvs_needed s w ≡ 0
       → read_dhc (dhc_octets (dhc s w) ++ pad) ≡ accepted (dhc s w)
   unfolding dhc_octets tlvs_refusal
   back NoStatus NoSwitching i x y n = absurd (omega arith)
-  back NoStatus (ASwitching a b c s p) i x y n =
-      let tlvs : List ℕ = octets_of 2 2 (octets_of 2 16 (octets_of 4 a (octets_of 4 b (octets_of 4 c (octets_of 4 (bit_of s * 2 + bit_of p) pad))))) in
+  back NoStatus (Some sw) i x y n =
+      let tlvs : List ℕ = octets_of 2 2 (octets_of 2 16 (octets_of 4 sw.destination (octets_of 4 sw.source (octets_of 4 sw.pw (octets_of 4 (bit_of sw.switch * 2 + bit_of sw.protection) pad))))) in
       let m = message 20 tlvs in
       reads m (met 32 0 12) _ (with-switching m refl refl) (head-says 20 tlvs (omega arith) (omega arith)) refl
       (same-fields (read_of 4 id [] i) (no-status m)
-      (switching-is m a b c 12 s p refl (read_of 4 a [] y.first) (read_of 4 b [] y.second) (read_of 4 c [] y.third)
-      (read_of 4 (bit_of s * 2 + bit_of p) [] (two-small s p))))
-  back (AStatus a b c p d f) NoSwitching i x y n =
-      let tlvs : List ℕ = octets_of 2 1 (octets_of 2 20 (octets_of 4 a (octets_of 4 b (octets_of 4 c (octets_of 4 (bit_of p) (octets_of 4 (bit_of d * 2 + bit_of f) pad)))))) in
+      (switching-is m sw.destination sw.source sw.pw 12 sw.switch sw.protection refl (read_of 4 sw.destination [] y.first) (read_of 4 sw.source [] y.second) (read_of 4 sw.pw [] y.third)
+      (read_of 4 (bit_of sw.switch * 2 + bit_of sw.protection) [] (two-small sw.switch sw.protection))))
+  back (Some st) NoSwitching i x y n =
+      let tlvs : List ℕ = octets_of 2 1 (octets_of 2 20 (octets_of 4 st.destination (octets_of 4 st.source (octets_of 4 st.pw (octets_of 4 (bit_of st.protection) (octets_of 4 (bit_of st.degrade * 2 + bit_of st.fail) pad)))))) in
       let m = message 24 tlvs in
       reads m (met 36 12 0) _ (with-status m refl refl) (head-says 24 tlvs (omega arith) (omega arith)) refl
       (same-fields (read_of 4 id [] i)
-      (status-is m a b c p d f (read_of 4 a [] x.first) (read_of 4 b [] x.second) (read_of 4 c [] x.third)
-      (read_of 4 (bit_of p) [] (one-small p)) (read_of 4 (bit_of d * 2 + bit_of f) [] (two-small d f)))
+      (status-is m st.destination st.source st.pw st.protection st.degrade st.fail (read_of 4 st.destination [] x.first) (read_of 4 st.source [] x.second) (read_of 4 st.pw [] x.third)
+      (read_of 4 (bit_of st.protection) [] (one-small st.protection)) (read_of 4 (bit_of st.degrade * 2 + bit_of st.fail) [] (two-small st.degrade st.fail)))
       (no-switching m))
-  back (AStatus a b c p d f) (ASwitching a' b' c' s q) i x y n =
-      let last : List ℕ = octets_of 2 2 (octets_of 2 16 (octets_of 4 a' (octets_of 4 b' (octets_of 4 c' (octets_of 4 (bit_of s * 2 + bit_of q) pad))))) in
-      let tlvs : List ℕ = octets_of 2 1 (octets_of 2 20 (octets_of 4 a (octets_of 4 b (octets_of 4 c (octets_of 4 (bit_of p) (octets_of 4 (bit_of d * 2 + bit_of f) last)))))) in
+  back (Some st) (Some sw) i x y n =
+      let last : List ℕ = octets_of 2 2 (octets_of 2 16 (octets_of 4 sw.destination (octets_of 4 sw.source (octets_of 4 sw.pw (octets_of 4 (bit_of sw.switch * 2 + bit_of sw.protection) pad))))) in
+      let tlvs : List ℕ = octets_of 2 1 (octets_of 2 20 (octets_of 4 st.destination (octets_of 4 st.source (octets_of 4 st.pw (octets_of 4 (bit_of st.protection) (octets_of 4 (bit_of st.degrade * 2 + bit_of st.fail) last)))))) in
       let m = message 44 tlvs in
       reads m (met 56 12 36) _ (with-both m refl refl refl refl) (head-says 44 tlvs (omega arith) (omega arith)) refl
       (same-fields (read_of 4 id [] i)
-      (status-is m a b c p d f (read_of 4 a [] x.first) (read_of 4 b [] x.second) (read_of 4 c [] x.third)
-      (read_of 4 (bit_of p) [] (one-small p)) (read_of 4 (bit_of d * 2 + bit_of f) [] (two-small d f)))
-      (switching-is m a' b' c' 36 s q refl (read_of 4 a' [] y.first) (read_of 4 b' [] y.second) (read_of 4 c' [] y.third)
-      (read_of 4 (bit_of s * 2 + bit_of q) [] (two-small s q))))
+      (status-is m st.destination st.source st.pw st.protection st.degrade st.fail (read_of 4 st.destination [] x.first) (read_of 4 st.source [] x.second) (read_of 4 st.pw [] x.third)
+      (read_of 4 (bit_of st.protection) [] (one-small st.protection)) (read_of 4 (bit_of st.degrade * 2 + bit_of st.fail) [] (two-small st.degrade st.fail)))
+      (switching-is m sw.destination sw.source sw.pw 36 sw.switch sw.protection refl (read_of 4 sw.destination [] y.first) (read_of 4 sw.source [] y.second) (read_of 4 sw.pw [] y.third)
+      (read_of 4 (bit_of sw.switch * 2 + bit_of sw.protection) [] (two-small sw.switch sw.protection))))
 
 -- what is written reads back, whatever stands behind it
 pub read-written : (d : Dhc) (pad : List ℕ) → Sized d → field_refusal d ≡ 0 → read_dhc (dhc_octets d ++ pad) ≡ accepted d
 read-written d pad s e = back d.id pad d.status d.switching s.id s.status s.switching e
 
 -- refusal 10 is for no other fields: what would be read is written
-exactly : (id : ℕ) (s : PwStatus) (w : NodeSwitching) → dhc_refusal (dhc_octets (dhc id [] s w)) ≡ 0 → tlvs_needed s w ≡ 0
+exactly : (id : ℕ) (s : OptionalStatus) (w : OptionalSwitching) → dhc_refusal (dhc_octets (dhc id [] s w)) ≡ 0 → tlvs_needed s w ≡ 0
 unfolding dhc_octets dhc_refusal tlvs_refusal
 exactly id NoStatus NoSwitching e =
     let m = message id [] 0 [] in
     let t : dhc_refusal m ≡ 25 = rw (none m 12 (omega arith), passes m start (head-says id [] 0 [] (omega arith) (omega arith))) in
     absurd (omega arith)
-exactly id NoStatus (ASwitching a b c s p) e = refl
-exactly id (AStatus a b c p d f) w e = refl
+exactly id NoStatus (Some sw) e = refl
+exactly id (Some st) w e = refl
 
 pub refused-exactly : (d : Dhc) → dhc_refusal (dhc_octets d) ≡ 0 → field_refusal d ≡ 0
 refused-exactly d e = exactly d.id d.status d.switching e

@@ -1,3 +1,4 @@
+pub mod Carried
 pub mod Tlvs
 pub mod Message
 pub mod Octets

@@ -6,23 +6,16 @@ use Rattle.octets.specs.Numbers.{number_at}
 use Rattle.octets.specs.Choice.{bar, or_else, Answer, accepted, refused, answer}
 use Rattle.gach.specs.Header.{channel_refusal}
 use Rattle.coordination.specs.declared.Dhc.{Dhc}
-use Rattle.coordination.specs.declared.PwStatus.{PwStatus}
-use Rattle.coordination.specs.declared.PwStatus.TheVariants.{Absent as NoStatus, Present as AStatus}
-use Rattle.coordination.specs.declared.NodeSwitching.{NodeSwitching}
-use Rattle.coordination.specs.declared.NodeSwitching.TheVariants.{Absent as NoSwitching, Present as ASwitching}
-use Rattle.coordination.specs.declared.DhcAnswer.{DhcAnswer}
-use Rattle.coordination.specs.declared.DhcAnswer.TheVariants.{Read, Refused}
+use Rattle.coordination.specs.Carried.{OptionalStatus}
+use Rattle.coordination.specs.Carried.{NoStatus, AStatus}
+use Rattle.coordination.specs.Carried.{OptionalSwitching}
+use Rattle.coordination.specs.Carried.{NoSwitching, ASwitching}
 use Rattle.coordination.specs.declared.tlv.Tlvs.{Tlvs}
 use Rattle.coordination.specs.Tlvs.{tlvs_of}
 
 -- the channel type of a DHC message
 abbrev pub dhc_channel : ℕ
 dhc_channel = 0x0009
-
--- the paper's answer for each case
-abbrev pub said : DhcAnswer → Answer Dhc
-said (Read d) = accepted d
-said (Refused n) = refused n
 
 -- where the TLVs end: octets 8 and 9 are their total length
 abbrev pub tlvs_end : List ℕ → ℕ
@@ -64,14 +57,14 @@ abbrev pub next_bit : ℕ → Bool
 next_bit n = eqb (n / 2 % 2) 1
 
 -- the PW Status TLV at a place: Destination, Source and DNI-PW ID, P in the flags, D and F in the Service PW Status; place 0 is none
-unfoldable pub status_at : List ℕ → ℕ → PwStatus
+unfoldable pub status_at : List ℕ → ℕ → OptionalStatus
 status_at m place =
     cond (eqb place 0) NoStatus
     (AStatus (number_at 4 m (place + 4)) (number_at 4 m (place + 8)) (number_at 4 m (place + 12))
     (low_bit (number_at 4 m (place + 16))) (next_bit (number_at 4 m (place + 20))) (low_bit (number_at 4 m (place + 20))))
 
 -- the Dual-Node Switching TLV at a place: Destination, Source and DNI-PW ID, S and P in the flags; place 0 is none
-unfoldable pub switching_at : List ℕ → ℕ → NodeSwitching
+unfoldable pub switching_at : List ℕ → ℕ → OptionalSwitching
 switching_at m place =
     cond (eqb place 0) NoSwitching
     (ASwitching (number_at 4 m (place + 4)) (number_at 4 m (place + 8)) (number_at 4 m (place + 12))

@@ -3,10 +3,11 @@
 use Rattle.std.specs.Prelude.{ℕ, cond, leb, eqb}
 use Rattle.octets.specs.Choice.{need, bar, or_else, bit_of, Answer, accepted, refused}
 use Rattle.coordination.specs.declared.Dhc.{Dhc}
-use Rattle.coordination.specs.declared.PwStatus.{PwStatus}
-use Rattle.coordination.specs.declared.PwStatus.TheVariants.{Absent as NoStatus, Present as AStatus}
-use Rattle.coordination.specs.declared.NodeSwitching.{NodeSwitching}
-use Rattle.coordination.specs.declared.NodeSwitching.TheVariants.{Absent as NoSwitching, Present as ASwitching}
+use Rattle.std.specs.Prelude.{Some}
+use Rattle.coordination.specs.Carried.{OptionalStatus}
+use Rattle.coordination.specs.Carried.{NoStatus, AStatus}
+use Rattle.coordination.specs.Carried.{OptionalSwitching}
+use Rattle.coordination.specs.Carried.{NoSwitching, ASwitching}
 use Rattle.coordination.specs.declared.numbers.StatusNumbers.{StatusNumbers}
 use Rattle.coordination.specs.declared.numbers.SwitchingNumbers.{SwitchingNumbers}
 use Rattle.coordination.specs.declared.numbers.DhcNumbers.{DhcNumbers}
@@ -14,23 +15,23 @@ use Rattle.coordination.specs.declared.numbers.DhcRead.{DhcRead}
 use Rattle.coordination.specs.Octets.{field_refusal}
 
 -- what is absent is 0
-abbrev pub status_numbers : PwStatus → StatusNumbers
+abbrev pub status_numbers : OptionalStatus → StatusNumbers
 status_numbers NoStatus = record { destination = 0; source = 0; pw = 0; present = 0; protection = 0; degrade = 0; fail = 0 }
-status_numbers (AStatus destination source pw protection degrade fail) =
+status_numbers (Some st) =
     record {
-      destination = destination;
-      source = source;
-      pw = pw;
+      destination = st.destination;
+      source = st.source;
+      pw = st.pw;
       present = 1;
-      protection = bit_of protection;
-      degrade = bit_of degrade;
-      fail = bit_of fail;
+      protection = bit_of st.protection;
+      degrade = bit_of st.degrade;
+      fail = bit_of st.fail;
     }
 
-abbrev pub switching_numbers : NodeSwitching → SwitchingNumbers
+abbrev pub switching_numbers : OptionalSwitching → SwitchingNumbers
 switching_numbers NoSwitching = record { destination = 0; source = 0; pw = 0; present = 0; switch = 0; protection = 0 }
-switching_numbers (ASwitching destination source pw switch protection) =
-    record { destination = destination; source = source; pw = pw; present = 1; switch = bit_of switch; protection = bit_of protection }
+switching_numbers (Some sw) =
+    record { destination = sw.destination; source = sw.source; pw = sw.pw; present = 1; switch = bit_of sw.switch; protection = bit_of sw.protection }
 
 abbrev pub dhc_numbers : Dhc → DhcNumbers
 dhc_numbers d = record { id = d.id; status = status_numbers d.status; switching = switching_numbers d.switching }
@@ -39,12 +40,12 @@ dhc_numbers d = record { id = d.id; status = status_numbers d.status; switching 
 abbrev pub no_numbers : DhcNumbers
 no_numbers = record { id = 0; status = status_numbers NoStatus; switching = switching_numbers NoSwitching }
 
-abbrev pub status_from : StatusNumbers → PwStatus
+abbrev pub status_from : StatusNumbers → OptionalStatus
 status_from n =
     cond (eqb n.present 1)
     (AStatus n.destination n.source n.pw (eqb n.protection 1) (eqb n.degrade 1) (eqb n.fail 1)) NoStatus
 
-abbrev pub switching_from : SwitchingNumbers → NodeSwitching
+abbrev pub switching_from : SwitchingNumbers → OptionalSwitching
 switching_from n =
     cond (eqb n.present 1)
     (ASwitching n.destination n.source n.pw (eqb n.switch 1) (eqb n.protection 1)) NoSwitching

@@ -6,34 +6,35 @@ use Rattle.octets.specs.Numbers.{octets_of}
 use Rattle.octets.specs.Choice.{bit_of}
 use Rattle.gach.specs.Header.{header_octets}
 use Rattle.coordination.specs.declared.Dhc.{Dhc}
-use Rattle.coordination.specs.declared.PwStatus.{PwStatus}
-use Rattle.coordination.specs.declared.PwStatus.TheVariants.{Absent as NoStatus, Present as AStatus}
-use Rattle.coordination.specs.declared.NodeSwitching.{NodeSwitching}
-use Rattle.coordination.specs.declared.NodeSwitching.TheVariants.{Absent as NoSwitching, Present as ASwitching}
+use Rattle.std.specs.Prelude.{Some}
+use Rattle.coordination.specs.Carried.{OptionalStatus}
+use Rattle.coordination.specs.Carried.{NoStatus, AStatus}
+use Rattle.coordination.specs.Carried.{OptionalSwitching}
+use Rattle.coordination.specs.Carried.{NoSwitching, ASwitching}
 use Rattle.coordination.specs.Message.{dhc_channel}
 
 -- refusal 10: neither TLV
-abbrev pub tlvs_needed : PwStatus → NodeSwitching → ℕ
+abbrev pub tlvs_needed : OptionalStatus → OptionalSwitching → ℕ
 tlvs_needed NoStatus NoSwitching = 10
-tlvs_needed NoStatus (ASwitching destination source pw switch protection) = 0
-tlvs_needed (AStatus destination source pw protection degrade fail) switching = 0
+tlvs_needed NoStatus (Some sw) = 0
+tlvs_needed (Some st) switching = 0
 
 abbrev pub field_refusal : Dhc → ℕ
 field_refusal d = tlvs_needed d.status d.switching
 
 -- PW Status: type 1, length 20, the three numbers, flags with P, Service PW Status with D and F
-abbrev pub status_tlv : PwStatus → List ℕ
+abbrev pub status_tlv : OptionalStatus → List ℕ
 status_tlv NoStatus = []
-status_tlv (AStatus destination source pw protection degrade fail) =
-    octets_of 2 1 (octets_of 2 20 (octets_of 4 destination (octets_of 4 source (octets_of 4 pw
-    (octets_of 4 (bit_of protection) (octets_of 4 (bit_of degrade * 2 + bit_of fail) []))))))
+status_tlv (Some st) =
+    octets_of 2 1 (octets_of 2 20 (octets_of 4 st.destination (octets_of 4 st.source (octets_of 4 st.pw
+    (octets_of 4 (bit_of st.protection) (octets_of 4 (bit_of st.degrade * 2 + bit_of st.fail) []))))))
 
 -- Dual-Node Switching: type 2, length 16, the three numbers, flags with S and P
-abbrev pub switching_tlv : NodeSwitching → List ℕ
+abbrev pub switching_tlv : OptionalSwitching → List ℕ
 switching_tlv NoSwitching = []
-switching_tlv (ASwitching destination source pw switch protection) =
-    octets_of 2 2 (octets_of 2 16 (octets_of 4 destination (octets_of 4 source (octets_of 4 pw
-    (octets_of 4 (bit_of switch * 2 + bit_of protection) [])))))
+switching_tlv (Some sw) =
+    octets_of 2 2 (octets_of 2 16 (octets_of 4 sw.destination (octets_of 4 sw.source (octets_of 4 sw.pw
+    (octets_of 4 (bit_of sw.switch * 2 + bit_of sw.protection) [])))))
 
 -- the total length of the TLVs
 abbrev pub total_of : Dhc → ℕ

@@ -3,10 +3,11 @@
 use Rattle.std.specs.Prelude.{ℕ, ◌+◌, ◌^◌, ◌<◌, ◌≡◌, List, length, get_or}
 use Rattle.octets.specs.Numbers.{number_at}
 use Rattle.coordination.specs.declared.Dhc.{Dhc}
-use Rattle.coordination.specs.declared.PwStatus.{PwStatus}
-use Rattle.coordination.specs.declared.PwStatus.TheVariants.{Absent as NoStatus, Present as AStatus}
-use Rattle.coordination.specs.declared.NodeSwitching.{NodeSwitching}
-use Rattle.coordination.specs.declared.NodeSwitching.TheVariants.{Absent as NoSwitching, Present as ASwitching}
+use Rattle.std.specs.Prelude.{Some}
+use Rattle.coordination.specs.Carried.{OptionalStatus}
+use Rattle.coordination.specs.Carried.{NoStatus, AStatus}
+use Rattle.coordination.specs.Carried.{OptionalSwitching}
+use Rattle.coordination.specs.Carried.{NoSwitching, ASwitching}
 use Rattle.coordination.specs.Message.{tlvs_end}
 
 -- three 32-bit numbers
@@ -15,13 +16,13 @@ pub record Three (a b c : ℕ) : Type 0 where
   pub second : b < 256 ^ 4
   pub third : c < 256 ^ 4
 
-abbrev pub SizedStatus : PwStatus → Type 0
+abbrev pub SizedStatus : OptionalStatus → Type 0
 SizedStatus NoStatus = Unit {0}
-SizedStatus (AStatus destination source pw protection degrade fail) = Three destination source pw
+SizedStatus (Some st) = Three st.destination st.source st.pw
 
-abbrev pub SizedSwitching : NodeSwitching → Type 0
+abbrev pub SizedSwitching : OptionalSwitching → Type 0
 SizedSwitching NoSwitching = Unit {0}
-SizedSwitching (ASwitching destination source pw switch protection) = Three destination source pw
+SizedSwitching (Some sw) = Three sw.destination sw.source sw.pw
 
 -- the numbers are those that the code's types hold
 pub record Sized (d : Dhc) : Type 0 where

@@ -15,33 +15,33 @@ pub use write::{field_refusal, write_dhc};
 
 pub const DHC_CHANNEL: u16 = 0x0009;
 
-// The PW Status TLV, where there is one: Destination and Source Node_ID, DNI-PW ID, then P (the
-// source is the protection PE), D (signal degrade) and F (signal fail).
-#[derive(Clone, Copy)]
-pub enum PwStatus {
-    Absent,
-    Present(u32, u32, u32, bool, bool, bool),
+// What a PW Status TLV says: Destination and Source Node_ID, DNI-PW ID, then P (the source is the protection PE), D
+// (signal degrade) and F (signal fail).
+#[derive(Clone, Copy, Debug, PartialEq, Eq)]
+pub struct PwStatus {
+    pub destination: u32,
+    pub source: u32,
+    pub pw: u32,
+    pub protection: bool,
+    pub degrade: bool,
+    pub fail: bool,
 }
 
-// The Dual-Node Switching TLV, where there is one: Destination and Source Node_ID, DNI-PW ID, then S
-// (switch to the protection PW) and P (the source is the protection PE).
-#[derive(Clone, Copy)]
-pub enum NodeSwitching {
-    Absent,
-    Present(u32, u32, u32, bool, bool),
+// What a Dual-Node Switching TLV says: Destination and Source Node_ID, DNI-PW ID, then S (switch to the protection PW)
+// and P (the source is the protection PE).
+#[derive(Clone, Copy, Debug, PartialEq, Eq)]
+pub struct NodeSwitching {
+    pub destination: u32,
+    pub source: u32,
+    pub pw: u32,
+    pub switch: bool,
+    pub protection: bool,
 }
 
-// What a DHC message says; id is the Dual-Homing Group ID.
-#[derive(Clone, Copy)]
+// What a DHC message says, with the two TLVs where they are there; id is the Dual-Homing Group ID.
+#[derive(Clone, Copy, Debug, PartialEq, Eq)]
 pub struct Dhc {
     pub id: u32,
-    pub status: PwStatus,
-    pub switching: NodeSwitching,
-}
-
-// What reading says: the fields, or the refusal.
-#[derive(Clone, Copy)]
-pub enum DhcAnswer {
-    Read(Dhc),
-    Refused(u32),
+    pub status: Option<PwStatus>,
+    pub switching: Option<NodeSwitching>,
 }

@@ -1,15 +1,16 @@
 // The fields of a DHC message in numbers alone, so that every bit pattern that a host can hand in is
 // a value: a mark or a bit is 0 or 1, and what is above is out of range (10).
 ghost use Rattle.std.specs.Prelude.{◌≡◌};
+ghost use Rattle.octets.specs.Refusals.{refusal_in};
 ghost use Rattle.octets.specs.Writing.{Written, writing};
-ghost use Rattle.coordination.specs.Message.{said, read_dhc};
+ghost use Rattle.coordination.specs.Message.{read_dhc};
 ghost use Rattle.coordination.specs.Octets.{dhc_octets};
 ghost use Rattle.coordination.specs.Numbers.{status_numbers, switching_numbers, dhc_numbers, no_numbers, status_from, switching_from, dhc_from, lost_numbers, status_marks, switching_marks, dhc_marks, numbers_refusal, numbers_by};
 
 use crate::read::read_dhc;
 use crate::write::write_dhc;
-use crate::{Dhc, DhcAnswer, NodeSwitching, PwStatus};
-use octets::{bit, need, or_else, refuse_if};
+use crate::{Dhc, NodeSwitching, PwStatus};
+use octets::Refusal;
 
 // A PW Status with a mark for its presence. Behind a mark of 0 there is nothing: the numbers are 0
 // when read, and others are refused when written (10), since the message would lose them.
@@ -53,11 +54,11 @@ pub struct DhcRead {
     pub dhc: DhcNumbers,
 }
 
-fn status_numbers(s: PwStatus) -> StatusNumbers
-    ensures { result ≡ status_numbers s }
+fn status_numbers(status: Option<PwStatus>) -> StatusNumbers
+    ensures { result ≡ status_numbers status }
 {
-    match s {
-        PwStatus::Absent => StatusNumbers {
+    match status {
+        None => StatusNumbers {
             destination: 0,
             source: 0,
             pw: 0,
@@ -66,23 +67,23 @@ fn status_numbers(s: PwStatus) -> StatusNumbers
             degrade: 0,
             fail: 0,
         },
-        PwStatus::Present(destination, source, pw, protection, degrade, fail) => StatusNumbers {
-            destination: destination,
-            source: source,
-            pw: pw,
+        Some(s) => StatusNumbers {
+            destination: s.destination,
+            source: s.source,
+            pw: s.pw,
             present: 1,
-            protection: bit(protection),
-            degrade: bit(degrade),
-            fail: bit(fail),
+            protection: u8::from(s.protection),
+            degrade: u8::from(s.degrade),
+            fail: u8::from(s.fail),
         },
     }
 }
 
-fn switching_numbers(s: NodeSwitching) -> SwitchingNumbers
-    ensures { result ≡ switching_numbers s }
+fn switching_numbers(switching: Option<NodeSwitching>) -> SwitchingNumbers
+    ensures { result ≡ switching_numbers switching }
 {
-    match s {
-        NodeSwitching::Absent => SwitchingNumbers {
+    match switching {
+        None => SwitchingNumbers {
             destination: 0,
             source: 0,
             pw: 0,
@@ -90,13 +91,13 @@ fn switching_numbers(s: NodeSwitching) -> SwitchingNumbers
             switch: 0,
             protection: 0,
         },
-        NodeSwitching::Present(destination, source, pw, switch, protection) => SwitchingNumbers {
-            destination: destination,
-            source: source,
-            pw: pw,
+        Some(s) => SwitchingNumbers {
+            destination: s.destination,
+            source: s.source,
+            pw: s.pw,
             present: 1,
-            switch: bit(switch),
-            protection: bit(protection),
+            switch: u8::from(s.switch),
+            protection: u8::from(s.protection),
         },
     }
 }
@@ -104,44 +105,42 @@ fn switching_numbers(s: NodeSwitching) -> SwitchingNumbers
 pub fn dhc_numbers(d: Dhc) -> DhcNumbers
     ensures { result ≡ dhc_numbers d }
 {
-    let status = d.status;
-    let switching = d.switching;
     DhcNumbers {
         id: d.id,
-        status: status_numbers(status),
-        switching: switching_numbers(switching),
+        status: status_numbers(d.status),
+        switching: switching_numbers(d.switching),
     }
 }
 
-fn status_from(n: StatusNumbers) -> PwStatus
+fn status_from(n: StatusNumbers) -> Option<PwStatus>
     ensures { result ≡ status_from n }
 {
-    if n.present == 1 {
-        return PwStatus::Present(
-            n.destination,
-            n.source,
-            n.pw,
-            n.protection == 1,
-            n.degrade == 1,
-            n.fail == 1,
-        );
+    if n.present != 1 {
+        return None;
     }
-    PwStatus::Absent
+    Some(PwStatus {
+        destination: n.destination,
+        source: n.source,
+        pw: n.pw,
+        protection: n.protection == 1,
+        degrade: n.degrade == 1,
+        fail: n.fail == 1,
+    })
 }
 
-fn switching_from(n: SwitchingNumbers) -> NodeSwitching
+fn switching_from(n: SwitchingNumbers) -> Option<NodeSwitching>
     ensures { result ≡ switching_from n }
 {
-    if n.present == 1 {
-        return NodeSwitching::Present(
-            n.destination,
-            n.source,
-            n.pw,
-            n.switch == 1,
-            n.protection == 1,
-        );
+    if n.present != 1 {
+        return None;
     }
-    NodeSwitching::Absent
+    Some(NodeSwitching {
+        destination: n.destination,
+        source: n.source,
+        pw: n.pw,
+        switch: n.switch == 1,
+        protection: n.protection == 1,
+    })
 }
 
 pub fn dhc_from(n: DhcNumbers) -> Dhc
@@ -155,46 +154,46 @@ pub fn dhc_from(n: DhcNumbers) -> Dhc
 }
 
 // 10 for a number that is not 0 behind a mark that is not 1.
-fn lost_numbers(present: u8, a: u32, b: u32, c: u32) -> u32
-    ensures { result ≡ lost_numbers present a b c }
+#[tactic(auto, unfolding(crate::specs::Numbers::lost_numbers))]
+fn lost_numbers(present: u8, a: u32, b: u32, c: u32) -> Result<(), Refusal>
+    ensures { refusal_in result ≡ lost_numbers present a b c }
 {
-    let lost = need(a == 0, 10, need(b == 0, 10, need(c == 0, 10, 0)));
-    refuse_if(present == 1, 0, lost)
+    if present != 1 && (a != 0 || b != 0 || c != 0) {
+        return Err(Refusal::OutOfRange);
+    }
+    Ok(())
 }
 
 // 10 for a mark above 1, a bit above the mark, or a number that would be lost.
-fn status_marks(n: StatusNumbers) -> u32
-    ensures { result ≡ status_marks n }
+#[tactic(auto, unfolding(crate::specs::Numbers::status_marks))]
+fn status_marks(n: StatusNumbers) -> Result<(), Refusal>
+    ensures { refusal_in result ≡ status_marks n }
 {
-    let lost = lost_numbers(n.present, n.destination, n.source, n.pw);
-    let service = need(
-        n.degrade <= n.present,
-        10,
-        need(n.fail <= n.present, 10, lost),
-    );
-    need(
-        n.present <= 1,
-        10,
-        need(n.protection <= n.present, 10, service),
-    )
+    if n.present > 1 || n.protection > n.present {
+        return Err(Refusal::OutOfRange);
+    }
+    if n.degrade > n.present || n.fail > n.present {
+        return Err(Refusal::OutOfRange);
+    }
+    lost_numbers(n.present, n.destination, n.source, n.pw)
 }
 
-fn switching_marks(n: SwitchingNumbers) -> u32
-    ensures { result ≡ switching_marks n }
+#[tactic(auto, unfolding(crate::specs::Numbers::switching_marks))]
+fn switching_marks(n: SwitchingNumbers) -> Result<(), Refusal>
+    ensures { refusal_in result ≡ switching_marks n }
 {
-    let lost = lost_numbers(n.present, n.destination, n.source, n.pw);
-    let flags = need(
-        n.switch <= n.present,
-        10,
-        need(n.protection <= n.present, 10, lost),
-    );
-    need(n.present <= 1, 10, flags)
+    if n.present > 1 || n.switch > n.present || n.protection > n.present {
+        return Err(Refusal::OutOfRange);
+    }
+    lost_numbers(n.present, n.destination, n.source, n.pw)
 }
 
-pub fn dhc_marks(n: DhcNumbers) -> u32
-    ensures { result ≡ dhc_marks n }
+#[tactic(auto, unfolding(crate::specs::Numbers::dhc_marks))]
+pub fn dhc_marks(n: DhcNumbers) -> Result<(), Refusal>
+    ensures { refusal_in result ≡ dhc_marks n }
 {
-    or_else(status_marks(n.status), switching_marks(n.switching))
+    status_marks(n.status)?;
+    switching_marks(n.switching)
 }
 
 fn no_numbers() -> DhcNumbers
@@ -202,42 +201,34 @@ fn no_numbers() -> DhcNumbers
 {
     DhcNumbers {
         id: 0,
-        status: status_numbers(PwStatus::Absent),
-        switching: switching_numbers(NodeSwitching::Absent),
+        status: status_numbers(None),
+        switching: switching_numbers(None),
     }
 }
 
-fn numbers_by(a: DhcAnswer) -> DhcRead
-    ensures { result ≡ numbers_by (said a) }
+// A DHC message, read to numbers.
+#[tactic(auto, unfolding(crate::specs::Message::read_dhc))]
+pub fn read_dhc_numbers(m: &[u8]) -> DhcRead
+    ensures { result ≡ numbers_by (read_dhc m.now) }
 {
-    match a {
-        DhcAnswer::Read(d) => DhcRead {
+    match read_dhc(m) {
+        Ok(d) => DhcRead {
             answer: 0,
             dhc: dhc_numbers(d),
         },
-        DhcAnswer::Refused(n) => DhcRead {
-            answer: n,
+        Err(refusal) => DhcRead {
+            answer: u32::from(refusal),
             dhc: no_numbers(),
         },
     }
 }
 
-// A DHC message, read to numbers.
-pub fn read_dhc_numbers(m: &[u8]) -> DhcRead
-    ensures { result ≡ numbers_by (read_dhc m.now) }
-{
-    numbers_by(read_dhc(m))
-}
-
 // Writes a plain DHC message from numbers, 32, 36 or 56 octets: 10 for the fields, then 13 for the
 // buffer, and then no byte changes.
-pub fn write_dhc_numbers(buffer: &mut [u8], n: DhcNumbers) -> u32
-    ensures { record { answer = result; buffer = buffer.new } ≡ writing (numbers_refusal n) (dhc_octets (dhc_from n)) buffer.old }
+#[tactic(auto, unfolding(octets::specs::Writing::writing))]
+pub fn write_dhc_numbers(buffer: &mut [u8], n: DhcNumbers) -> Result<(), Refusal>
+    ensures { record { answer = refusal_in result; buffer = buffer.new } ≡ writing (numbers_refusal n) (dhc_octets (dhc_from n)) buffer.old }
 {
-    let marks = dhc_marks(n);
-    let d = dhc_from(n);
-    if marks == 0 {
-        return write_dhc(buffer, d);
-    }
-    marks
+    dhc_marks(n)?;
+    write_dhc(buffer, dhc_from(n))
 }

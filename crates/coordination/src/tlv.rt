@@ -2,10 +2,11 @@
 ghost use Rattle.std.specs.Prelude.{◌≡◌, cond, ◌+◌, ◌<◌};
 ghost use Rattle.coordination.specs.Tlvs.{repeated, wrong_length, wrong_tlv, noted, ended, step, tlvs_of};
 
-use octets::{either, get_u16};
+use octets::get_u16;
 
 // What the TLVs before the place `at` said. bad tells that one was wrong; status and switching are
-// the places of a PW Status and a Dual-Node Switching TLV, 0 until then. The total length is two
+// the places of a PW Status and a Dual-Node Switching TLV, 0 until then (numbers and no Option: `step` and `dhc_of`
+// speak of each of them, also where the walk ended at a wrong TLV). The total length is two
 // octets, so a TLV starts below 12 + 65,535.
 #[derive(Clone, Copy)]
 pub(crate) struct Tlvs {
@@ -15,49 +16,38 @@ pub(crate) struct Tlvs {
     pub switching: u32,
 }
 
+#[tactic(auto, unfolding(crate::specs::Tlvs::repeated))]
 fn is_repeated(t: Tlvs, kind: u16) -> bool
     ensures { result ≡ repeated t kind }
 {
-    if kind == 1 {
-        return 0 < t.status;
-    }
-    if kind == 2 {
-        return 0 < t.switching;
-    }
-    false
+    (kind == 1 && 0 < t.status) || (kind == 2 && 0 < t.switching)
 }
 
+#[tactic(auto, unfolding(crate::specs::Tlvs::wrong_length))]
 fn has_wrong_length(kind: u16, size: u16) -> bool
     ensures { result ≡ wrong_length kind size }
 {
-    if kind == 1 {
-        return size != 20;
-    }
-    if kind == 2 {
-        return size != 16;
-    }
-    false
+    (kind == 1 && size != 20) || (kind == 2 && size != 16)
 }
 
 // Whether the TLV of this type and length at t.at is wrong.
+#[tactic(auto, unfolding(crate::specs::Tlvs::wrong_tlv))]
 fn is_wrong(t: Tlvs, end: u32, kind: u16, size: u16) -> bool
     requires { t.at < 65547 }
     ensures { result ≡ wrong_tlv t end kind size }
 {
     let past = end < t.at + 4 + size as u32;
-    either(
-        is_repeated(t, kind),
-        either(has_wrong_length(kind, size), past),
-    )
+    is_repeated(t, kind) || has_wrong_length(kind, size) || past
 }
 
 fn end_with(end: u32, t: Tlvs) -> Tlvs
     ensures { result ≡ ended end t }
 {
-    let mut r = t;
-    r.at = end;
-    r.bad = true;
-    r
+    Tlvs {
+        at: end,
+        bad: true,
+        ..t
+    }
 }
 
 // The new place where the test holds, else the old one.
@@ -95,6 +85,7 @@ fn step_tlv(m: &[u8], end: u32, t: Tlvs) -> Tlvs
 }
 
 // The TLVs in `total` octets from octet 12 on.
+#[tactic(auto, unfolding(crate::specs::Tlvs::tlvs_of))]
 pub(crate) fn read_tlvs(m: &[u8], total: u16) -> Tlvs
     ensures { result ≡ tlvs_of m.now (12 + total) }
 {

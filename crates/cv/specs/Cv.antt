@@ -2,7 +2,7 @@
 -- Assumes nothing.
 use Rattle.std.specs.Prelude.{cond, ◌≡◌, ℕ, ◌+◌, ◌<◌, List, [], length, get_or, ltb, eqb}
 use Rattle.octets.specs.Numbers.{number_at}
-use Rattle.octets.specs.Choice.{need, bar, or_else, Answer, accepted, refused, answer, Placed}
+use Rattle.octets.specs.Choice.{need, bar, or_else, Answer, answer, Placed}
 use Rattle.gach.specs.Header.{cv_channel, channel_place}
 use Rattle.bfd.specs.declared.Packet.{Packet}
 use Rattle.bfd.specs.Packet.{length_of, packet_of}
@@ -10,8 +10,6 @@ use Rattle.bfd.specs.Reception.{body_refusal, control_refusal, body_place}
 use Rattle.bfd.specs.Octets.{packet_octets, field_refusal}
 use Rattle.cv.specs.declared.MepId.{MepId}
 use Rattle.cv.specs.declared.Verification.{Verification}
-use Rattle.cv.specs.declared.CvAnswer.{CvAnswer}
-use Rattle.cv.specs.declared.CvAnswer.TheVariants.{Read, Refused}
 use Rattle.cv.specs.declared.CvOctets.{CvOctets}
 use Rattle.cv.specs.Forms.{value_length, mep_refusal, mep_fits, form_place, value_place}
 use Rattle.cv.specs.MepId.{mep_id_at, stretch_at, mep_octets, whole_octets}
@@ -43,11 +41,6 @@ source_of m = mep_id_at (stretch_at m (mep_at m)) 0
 
 abbrev pub verification_of : List ℕ → Verification
 verification_of m = record { packet = packet_of m; mep = source_of m }
-
--- the paper's number, values and place for each case of the reader's answer
-abbrev pub said : CvAnswer → Placed Verification
-said (Read v place) = record { answer = accepted v; place = place }
-said (Refused n place) = record { answer = refused n; place = place }
 
 -- what reading a CV says
 unfoldable pub read_cv : List ℕ → Answer Verification

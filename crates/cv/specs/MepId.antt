@@ -4,11 +4,9 @@
 -- Assumes nothing.
 use Rattle.std.specs.Prelude.{ℕ, ◌+◌, ◌-◌, ◌*◌, ◌/◌, ◌^◌, ◌<◌, List, [], ◌∷◌, Bool, cond, ◌&&◌, ◌||◌, get_or, take, drop, ltb, eqb}
 use Rattle.octets.specs.Numbers.{number_at, octets_of}
-use Rattle.octets.specs.Choice.{Answer, accepted, refused, answer}
+use Rattle.octets.specs.Choice.{Answer, answer}
 use Rattle.cv.specs.declared.Agi.{Agi}
 use Rattle.cv.specs.declared.MepId.{MepId}
-use Rattle.cv.specs.declared.MepAnswer.{MepAnswer}
-use Rattle.cv.specs.declared.MepAnswer.TheVariants.{Read, Refused}
 use Rattle.cv.specs.Forms.{value_length, mep_refusal}
 
 -- the AGI of the MEP-ID from place `at`
@@ -95,11 +93,6 @@ plain_mep id =
       group = cond (ltb id.kind 2) 0 id.group;
       size = cond (ltb id.kind 2) 0 id.size;
     }
-
--- the paper's number and values for each case of the answer to a MEP-ID alone
-abbrev pub mep_said : MepAnswer → Answer MepId
-mep_said (Read id) = accepted id
-mep_said (Refused n) = refused n
 
 -- what reading a MEP-ID alone says, from its octets, type to end; octets behind them are padding
 unfoldable pub read_mep : List ℕ → Answer MepId

@@ -16,7 +16,7 @@ pub use write::{cv_field_refusal, cv_octets, write_cv};
 
 // The octets of an attachment group identifier, 8 in a number and the first one highest.
 #[repr(C)]
-#[derive(Clone, Copy)]
+#[derive(Clone, Copy, Debug, PartialEq, Eq)]
 pub struct Agi {
     pub first: u64,
     pub second: u64,
@@ -29,7 +29,7 @@ pub struct Agi {
 // and an AGI of 0 to 32 octets, with its type in `group` and its length in `size`). What a kind
 // does not use, and the octets behind the AGI's length, are nobody's field.
 #[repr(C)]
-#[derive(Clone, Copy)]
+#[derive(Clone, Copy, Debug, PartialEq, Eq)]
 pub struct MepId {
     pub agi: Agi,
     pub global: u32,
@@ -41,29 +41,14 @@ pub struct MepId {
 }
 
 // What a CV carries.
-#[derive(Clone, Copy)]
+#[derive(Clone, Copy, Debug, PartialEq, Eq)]
 pub struct Verification {
     pub packet: bfd::Packet,
     pub mep: MepId,
 }
 
-// What reading a CV says, with a place: behind the fields the octets used, behind a refusal where the
-// message went wrong.
-#[derive(Clone, Copy)]
-pub enum CvAnswer {
-    Read(Verification, usize),
-    Refused(u32, usize),
-}
-
-// What reading a MEP-ID alone says.
-#[derive(Clone, Copy)]
-pub enum MepAnswer {
-    Read(MepId),
-    Refused(u32),
-}
-
-// A written CV: the first `count` octets.
-#[derive(Clone, Copy)]
+// A written CV: the first `count` octets. A length stands beside the buffer, since no memory is allocated.
+#[derive(Clone, Copy, Debug, PartialEq, Eq)]
 pub struct CvOctets {
     pub octets: [u8; 78],
     pub count: usize,

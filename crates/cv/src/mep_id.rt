@@ -7,7 +7,7 @@ ghost use Rattle.cv.specs.MepId.{agi_at, mep_id_at, stretch_at, head_octets, who
 use crate::form::value_length;
 use crate::words::same_agi;
 use crate::{Agi, MepId};
-use octets::{get_u8, get_u16, get_u32, get_u64, put_octets, put_u64};
+use octets::{get_u8, get_u16, get_u32, get_u64, put_u16, put_u32, put_u64};
 
 // Two of the four words of an AGI.
 #[derive(Clone, Copy)]
@@ -71,86 +71,50 @@ pub(crate) fn mep_id_in(s: &[u8], at: u16) -> MepId
 }
 
 // The octets of a MEP-ID, type to end: 16, or 18 to 50.
+#[tactic(auto, unfolding(crate::specs::Forms::value_length))]
 pub fn mep_size(id: MepId) -> usize
     ensures { result ≡ 4 + value_length id.kind id.size }
 {
     4 + value_length(id.kind, id.size) as usize
 }
 
-// The 18 octets before the AGI.
-fn head_octets(id: MepId) -> [u8; 18]
-    ensures { result ≡ head_octets id [] }
-{
-    let length = value_length(id.kind, id.size);
-    [
-        (id.kind / 256 % 256) as u8,
-        (id.kind % 256) as u8,
-        (length / 256 % 256) as u8,
-        (length % 256) as u8,
-        (id.global / 256 / 256 / 256 % 256) as u8,
-        (id.global / 256 / 256 % 256) as u8,
-        (id.global / 256 % 256) as u8,
-        (id.global % 256) as u8,
-        (id.node / 256 / 256 / 256 % 256) as u8,
-        (id.node / 256 / 256 % 256) as u8,
-        (id.node / 256 % 256) as u8,
-        (id.node % 256) as u8,
-        (id.local / 256 / 256 / 256 % 256) as u8,
-        (id.local / 256 / 256 % 256) as u8,
-        (id.local / 256 % 256) as u8,
-        (id.local % 256) as u8,
-        id.group,
-        id.size,
-    ]
-}
-
 // Every number of a MEP-ID in octets; the first `mep_size` of them are the MEP-ID.
+#[tactic(auto, unfolding(crate::specs::MepId::head_octets, crate::specs::MepId::agi_octets))]
 pub fn mep_octets(id: MepId) -> [u8; 50]
     ensures { result ≡ whole_octets id }
 {
-    let agi = id.agi;
     let mut o = [0u8; 50];
-    put_octets(&mut o, 0, &head_octets(id));
-    put_u64(&mut o, 18, agi.first);
-    put_u64(&mut o, 26, agi.second);
-    put_u64(&mut o, 34, agi.third);
-    put_u64(&mut o, 42, agi.fourth);
+    put_u16(&mut o, 0, id.kind);
+    put_u16(&mut o, 2, value_length(id.kind, id.size));
+    put_u32(&mut o, 4, id.global);
+    put_u32(&mut o, 8, id.node);
+    put_u32(&mut o, 12, id.local);
+    o[16] = id.group;
+    o[17] = id.size;
+    put_u64(&mut o, 18, id.agi.first);
+    put_u64(&mut o, 26, id.agi.second);
+    put_u64(&mut o, 34, id.agi.third);
+    put_u64(&mut o, 42, id.agi.fourth);
     o
 }
 
 // The same AGI.
+#[tactic(auto, unfolding(crate::specs::MepId::same_group))]
 fn same_group(a: MepId, b: MepId) -> bool
     ensures { result ≡ same_group a b }
 {
-    if a.group != b.group {
-        return false;
-    }
-    if a.size != b.size {
-        return false;
-    }
-    let one = a.agi;
-    let other = b.agi;
-    same_agi(a.size, one, other)
+    a.group == b.group && a.size == b.size && same_agi(a.size, a.agi, b.agi)
 }
 
-// The same type and value.
+// The same type and value: no derived `==`, since what a type does not use, and the octets behind the AGI, are no
+// part of it (`same_mep_id`).
+#[tactic(auto, unfolding(crate::specs::MepId::same_mep_id))]
 pub fn same_mep_id(a: MepId, b: MepId) -> bool
     ensures { result ≡ same_mep_id a b }
 {
-    if a.kind != b.kind {
-        return false;
-    }
-    if a.global != b.global {
-        return false;
-    }
-    if a.node != b.node {
-        return false;
-    }
-    if a.local != b.local {
-        return false;
-    }
-    if a.kind < 2 {
-        return true;
-    }
-    same_group(a, b)
+    a.kind == b.kind
+        && a.global == b.global
+        && a.node == b.node
+        && a.local == b.local
+        && (a.kind < 2 || same_group(a, b))
 }

@@ -9,6 +9,7 @@ use gach::CV_CHANNEL;
 use octets::{get_u8, get_u16};
 
 // The type of the MEP-ID at `at`, then its length; else `rest`.
+#[tactic(auto, unfolding(crate::specs::Forms::form_place))]
 fn form_place(at: u16, kind: u16, length: u16, rest: usize) -> usize
     ensures { result ≡ form_place at kind length rest }
 {
@@ -23,6 +24,7 @@ fn form_place(at: u16, kind: u16, length: u16, rest: usize) -> usize
 }
 
 // The size of a message that ends inside the value, then its AGI length; else the value's end.
+#[tactic(auto, unfolding(crate::specs::Forms::value_place))]
 fn value_place(size: usize, at: u16, kind: u16, length: u16, agi: u8) -> usize
     ensures { result ≡ value_place size at kind length agi }
 {
@@ -38,6 +40,7 @@ fn value_place(size: usize, at: u16, kind: u16, length: u16, agi: u8) -> usize
 }
 
 // Behind the packet: the length of the message, a field of the MEP-ID, or the octets used.
+#[tactic(auto, unfolding(crate::specs::Cv::source_place))]
 fn source_place(m: &[u8]) -> usize
     ensures { result ≡ source_place m.now }
 {
@@ -53,6 +56,7 @@ fn source_place(m: &[u8]) -> usize
 }
 
 // Where a CV goes wrong; of an accepted one the octets used.
+#[tactic(auto, unfolding(crate::specs::Cv::cv_place))]
 pub fn cv_place(m: &[u8]) -> usize
     ensures { result ≡ cv_place m.now }
 {

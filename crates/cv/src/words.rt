@@ -3,9 +3,9 @@ ghost use Rattle.std.specs.Prelude.{◌≡◌, ◌-◌, eqb};
 ghost use Rattle.cv.specs.MepId.{front_of, same_agi};
 
 use crate::Agi;
-use octets::both;
 
 // The first n octets of a word, as a number; all 8 where n is more.
+#[tactic(auto, unfolding(crate::specs::MepId::front_of))]
 fn front_of(n: u8, word: u64) -> u64
     ensures { result ≡ front_of n word }
 {
@@ -22,14 +22,8 @@ fn front_of(n: u8, word: u64) -> u64
     }
 }
 
-// How many of n octets lie behind the first k.
-fn left_behind(n: u8, k: u8) -> u8
-    ensures { result ≡ n - k }
-{
-    if n < k { 0 } else { n - k }
-}
-
 // The same first n octets of a word.
+#[tactic(auto, unfolding(crate::specs::MepId::front_of))]
 fn same_front(n: u8, a: u64, b: u64) -> bool
     ensures { result ≡ eqb (front_of n a) (front_of n b) }
 {
@@ -37,12 +31,12 @@ fn same_front(n: u8, a: u64, b: u64) -> bool
 }
 
 // The same first n octets of an AGI.
+#[tactic(auto, unfolding(crate::specs::MepId::same_agi))]
 pub(crate) fn same_agi(n: u8, a: Agi, b: Agi) -> bool
     ensures { result ≡ same_agi n a b }
 {
-    let first = same_front(n, a.first, b.first);
-    let second = same_front(left_behind(n, 8), a.second, b.second);
-    let third = same_front(left_behind(n, 16), a.third, b.third);
-    let fourth = same_front(left_behind(n, 24), a.fourth, b.fourth);
-    both(both(both(first, second), third), fourth)
+    same_front(n, a.first, b.first)
+        && same_front(n.saturating_sub(8), a.second, b.second)
+        && same_front(n.saturating_sub(16), a.third, b.third)
+        && same_front(n.saturating_sub(24), a.fourth, b.fourth)
 }

@@ -8,29 +8,30 @@ use native.Mathlib.Omega.{arith}
 use lib.ListN.{length, take, replicate}
 use lib.Seq.{sets, length-sets}
 use Rattle.fault.specs.declared.Fault.{Fault}
-use Rattle.fault.specs.declared.IfId.{IfId}
-use Rattle.fault.specs.declared.IfId.TheVariants.{Absent as NoIfId, Present as AnIfId}
-use Rattle.fault.specs.declared.GlobalId.{GlobalId}
-use Rattle.fault.specs.declared.GlobalId.TheVariants.{Absent as NoGlobalId, Present as AGlobalId}
+use Rattle.fault.specs.Identifiers.{OptionalIfId}
+use Rattle.fault.specs.Identifiers.{NoIfId}
+use Rattle.std.specs.Prelude.{Some}
+use Rattle.fault.specs.Identifiers.{OptionalGlobalId}
+use Rattle.fault.specs.Identifiers.{NoGlobalId, AGlobalId}
 use Rattle.fault.specs.Octets.{if_tlv, global_tlv, total_of, all_octets, fault_octets}
 
-pub if-small : (i : IfId) → length (if_tlv i) ≤ 10
+pub if-small : (i : OptionalIfId) → length (if_tlv i) ≤ 10
 if-small NoIfId = omega arith
-if-small (AnIfId node interface) = omega arith
+if-small (Some i) = omega arith
 
-pub global-small : (g : GlobalId) → length (global_tlv g) ≤ 6
+pub global-small : (g : OptionalGlobalId) → length (global_tlv g) ≤ 6
 global-small NoGlobalId = omega arith
 global-small (AGlobalId global) = omega arith
 
 module _ (kind refresh : ℕ) (linkdown removed : Bool) where
-  cut : (i : IfId) (g : GlobalId)
+  cut : (i : OptionalIfId) (g : OptionalGlobalId)
       → let f : Fault = record { kind = kind; linkdown = linkdown; removed = removed; refresh = refresh; interface = i; global = g } in
       take (9 + total_of f) (all_octets f) ≡ fault_octets f
   unfolding all_octets fault_octets
   cut NoIfId NoGlobalId = refl
   cut NoIfId (AGlobalId global) = refl
-  cut (AnIfId node interface) NoGlobalId = refl
-  cut (AnIfId node interface) (AGlobalId global) = refl
+  cut (Some i) NoGlobalId = refl
+  cut (Some i) (AGlobalId global) = refl
 
 -- the octets that are written are the front of the 25
 pub front : (f : Fault) → take (9 + total_of f) (all_octets f) ≡ fault_octets f

@@ -14,10 +14,11 @@ use Rattle.octets.proofs.Numbers.{read_of, run, of_at, run-all}
 use Rattle.octets.proofs.Chain.{bit-again}
 use Rattle.gach.specs.Header.{fault_channel, header_octets}
 use Rattle.fault.specs.declared.Fault.{Fault}
-use Rattle.fault.specs.declared.IfId.{IfId}
-use Rattle.fault.specs.declared.IfId.TheVariants.{Absent as NoIfId, Present as AnIfId}
-use Rattle.fault.specs.declared.GlobalId.{GlobalId}
-use Rattle.fault.specs.declared.GlobalId.TheVariants.{Absent as NoGlobalId, Present as AGlobalId}
+use Rattle.fault.specs.Identifiers.{OptionalIfId}
+use Rattle.fault.specs.Identifiers.{NoIfId}
+use Rattle.std.specs.Prelude.{Some}
+use Rattle.fault.specs.Identifiers.{OptionalGlobalId}
+use Rattle.fault.specs.Identifiers.{NoGlobalId, AGlobalId}
 use Rattle.fault.specs.declared.tlv.Tlvs.{Tlvs}
 use Rattle.fault.specs.Tlvs.{repeated, right_length, bad_octet, with_tlv, step_with, start, tlvs_of}
 use Rattle.fault.specs.Message.{tlvs_in, refusal_with, fault_refusal, fields_with, fault_of, read_fault}
@@ -84,7 +85,7 @@ same_met : (at : ℕ) (p q : Bool) {a b c a' b' c' : ℕ} → a ≡ a' → b ≡
 same_met at p q x y z = rw (x, y, z)
 
 module _ (kind refresh : ℕ) (linkdown removed : Bool) (pad : List ℕ) where
-  abbrev fault : IfId → GlobalId → Fault
+  abbrev fault : OptionalIfId → OptionalGlobalId → Fault
   fault i g = record { kind = kind; linkdown = linkdown; removed = removed; refresh = refresh; interface = i; global = g }
 
   -- the nine octets before the TLVs
@@ -101,7 +102,7 @@ module _ (kind refresh : ℕ) (linkdown removed : Bool) (pad : List ℕ) where
         fits = omega arith;
       }
 
-  back : (i : IfId) (g : GlobalId) → SizedIf i → SizedGlobal g → RangeSays kind refresh
+  back : (i : OptionalIfId) (g : OptionalGlobalId) → SizedIf i → SizedGlobal g → RangeSays kind refresh
       → read_fault (fault_octets (fault i g) ++ pad) ≡ accepted (fault i g)
   unfolding fault_octets fields_with
   back NoIfId NoGlobalId si sg r =
@@ -114,14 +115,18 @@ module _ (kind refresh : ℕ) (linkdown removed : Bool) (pad : List ℕ) where
       let t = met 15 false 0 0 true global in
       reads m t _ (with-global m refl refl ∙ same_met 15 false true refl refl (read_of 4 global [] sg)) (passes m t (head-says r 6 tlvs (omega arith)) refl)
       (rw (link-back linkdown removed, removed-back linkdown removed))
-  back (AnIfId node interface) NoGlobalId si sg r =
+  back (Some i) NoGlobalId si sg r =
+      let node = i.node in
+      let interface = i.interface in
       let tlvs : List ℕ = 1 ∷ 8 ∷ octets_of 4 node (octets_of 4 interface pad) in
       let m = message 10 tlvs in
       let t = met 19 true node interface false 0 in
       reads m t _ (with-if m refl refl ∙ same_met 19 true false (read_of 4 node [] si.0) (read_of 4 interface [] si.1) refl)
       (passes m t (head-says r 10 tlvs (omega arith)) refl)
       (rw (link-back linkdown removed, removed-back linkdown removed))
-  back (AnIfId node interface) (AGlobalId global) si sg r =
+  back (Some i) (AGlobalId global) si sg r =
+      let node = i.node in
+      let interface = i.interface in
       let tlvs : List ℕ = 1 ∷ 8 ∷ octets_of 4 node (octets_of 4 interface (2 ∷ 4 ∷ octets_of 4 global pad)) in
       let m = message 16 tlvs in
       let t = met 25 true node interface true global in

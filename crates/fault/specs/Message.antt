@@ -1,22 +1,15 @@
 -- The fault message (RFC 6427), read: the channel header, five octets, and TLVs. Octets behind the TLVs are not looked at.
 -- Assumes nothing.
 use Rattle.std.specs.Prelude.{ℕ, ◌+◌, ◌/◌, ◌%◌, List, Bool, cond, length, get_or, ltb, leb, eqb}
-use Rattle.octets.specs.Choice.{need, bar, or_else, Answer, accepted, refused, answer, Placed}
+use Rattle.octets.specs.Choice.{need, bar, or_else, Answer, answer, Placed}
 use Rattle.gach.specs.Header.{fault_channel, channel_refusal, channel_place}
 use Rattle.fault.specs.declared.Fault.{Fault}
-use Rattle.fault.specs.declared.IfId.{IfId}
-use Rattle.fault.specs.declared.IfId.TheVariants.{Absent as NoIfId, Present as AnIfId}
-use Rattle.fault.specs.declared.GlobalId.{GlobalId}
-use Rattle.fault.specs.declared.GlobalId.TheVariants.{Absent as NoGlobalId, Present as AGlobalId}
-use Rattle.fault.specs.declared.FaultAnswer.{FaultAnswer}
-use Rattle.fault.specs.declared.FaultAnswer.TheVariants.{Read, Refused}
+use Rattle.fault.specs.Identifiers.{OptionalIfId}
+use Rattle.fault.specs.Identifiers.{NoIfId, AnIfId}
+use Rattle.fault.specs.Identifiers.{OptionalGlobalId}
+use Rattle.fault.specs.Identifiers.{NoGlobalId, AGlobalId}
 use Rattle.fault.specs.declared.tlv.Tlvs.{Tlvs}
 use Rattle.fault.specs.Tlvs.{tlvs_of}
-
--- the paper's answer and place for each case
-abbrev pub said : FaultAnswer → Placed Fault
-said (Read f place) = record { answer = accepted f; place = place }
-said (Refused n place) = record { answer = refused n; place = place }
 
 -- the refusal n unless the type is 1 (AIS) or 2 (LKR) and the refresh time 1 to 20 seconds
 unfoldable pub range_refusal : ℕ → ℕ → ℕ → ℕ
@@ -60,10 +53,10 @@ unfoldable pub fault_refusal : List ℕ → ℕ
 fault_refusal m = refusal_with m (tlvs_in m)
 
 -- an IF_ID and a Global_ID, present or absent
-abbrev pub if_id_of : Bool → ℕ → ℕ → IfId
+abbrev pub if_id_of : Bool → ℕ → ℕ → OptionalIfId
 if_id_of present node interface = cond present (AnIfId node interface) NoIfId
 
-abbrev pub global_id_of : Bool → ℕ → GlobalId
+abbrev pub global_id_of : Bool → ℕ → OptionalGlobalId
 global_id_of present global = cond present (AGlobalId global) NoGlobalId
 
 -- octet 5 the type, octet 6 the flags (value 2 is L, value 1 is R, the others are not looked at), octet 7 the refresh time

@@ -6,10 +6,11 @@ use Rattle.octets.specs.Numbers.{octets_of}
 use Rattle.octets.specs.Choice.{bit_of}
 use Rattle.gach.specs.Header.{fault_channel, header_octets}
 use Rattle.fault.specs.declared.Fault.{Fault}
-use Rattle.fault.specs.declared.IfId.{IfId}
-use Rattle.fault.specs.declared.IfId.TheVariants.{Absent as NoIfId, Present as AnIfId}
-use Rattle.fault.specs.declared.GlobalId.{GlobalId}
-use Rattle.fault.specs.declared.GlobalId.TheVariants.{Absent as NoGlobalId, Present as AGlobalId}
+use Rattle.fault.specs.Identifiers.{OptionalIfId}
+use Rattle.fault.specs.Identifiers.{NoIfId}
+use Rattle.std.specs.Prelude.{Some}
+use Rattle.fault.specs.Identifiers.{OptionalGlobalId}
+use Rattle.fault.specs.Identifiers.{NoGlobalId, AGlobalId}
 use Rattle.fault.specs.Message.{range_refusal}
 
 -- refusal 10: a type other than 1 and 2, a refresh time other than 1 to 20
@@ -17,12 +18,12 @@ abbrev pub field_refusal : Fault → ℕ
 field_refusal f = range_refusal 10 f.kind f.refresh
 
 -- IF_ID: type 1, length 8, Node and Interface
-abbrev pub if_tlv : IfId → List ℕ
+abbrev pub if_tlv : OptionalIfId → List ℕ
 if_tlv NoIfId = []
-if_tlv (AnIfId node interface) = 1 ∷ 8 ∷ octets_of 4 node (octets_of 4 interface [])
+if_tlv (Some i) = 1 ∷ 8 ∷ octets_of 4 i.node (octets_of 4 i.interface [])
 
 -- Global_ID: type 2, length 4, the identifier
-abbrev pub global_tlv : GlobalId → List ℕ
+abbrev pub global_tlv : OptionalGlobalId → List ℕ
 global_tlv NoGlobalId = []
 global_tlv (AGlobalId global) = 2 ∷ 4 ∷ octets_of 4 global []
 

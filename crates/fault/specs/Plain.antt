@@ -2,17 +2,18 @@
 -- Assumes nothing.
 use Rattle.std.specs.Prelude.{ℕ, ◌+◌, ◌%◌, ◌^◌, ◌<◌, ◌≡◌, List, length, get_or}
 use Rattle.fault.specs.declared.Fault.{Fault}
-use Rattle.fault.specs.declared.IfId.{IfId}
-use Rattle.fault.specs.declared.IfId.TheVariants.{Absent as NoIfId, Present as AnIfId}
-use Rattle.fault.specs.declared.GlobalId.{GlobalId}
-use Rattle.fault.specs.declared.GlobalId.TheVariants.{Absent as NoGlobalId, Present as AGlobalId}
+use Rattle.fault.specs.Identifiers.{OptionalIfId}
+use Rattle.fault.specs.Identifiers.{NoIfId}
+use Rattle.std.specs.Prelude.{Some}
+use Rattle.fault.specs.Identifiers.{OptionalGlobalId}
+use Rattle.fault.specs.Identifiers.{NoGlobalId, AGlobalId}
 
 -- Node, Interface and the Global_ID are 32-bit numbers
-abbrev pub SizedIf : IfId → Type 0
+abbrev pub SizedIf : OptionalIfId → Type 0
 SizedIf NoIfId = Unit {0}
-SizedIf (AnIfId node interface) = (node < 256 ^ 4) × (interface < 256 ^ 4)
+SizedIf (Some i) = (i.node < 256 ^ 4) × (i.interface < 256 ^ 4)
 
-abbrev pub SizedGlobal : GlobalId → Type 0
+abbrev pub SizedGlobal : OptionalGlobalId → Type 0
 SizedGlobal NoGlobalId = Unit {0}
 SizedGlobal (AGlobalId global) = global < 256 ^ 4
 

@@ -10,16 +10,15 @@ use octets::get_u8;
 fn range_place(number: u8, most: u8, at: usize, rest: usize) -> usize
     ensures { result ≡ range_place number most at rest }
 {
-    if number < 1 {
-        return at;
+    if number < 1 || most < number {
+        at
+    } else {
+        rest
     }
-    if most < number {
-        return at;
-    }
-    rest
 }
 
 // Version, type or refresh time, the first that the rules do not know; else `rest`.
+#[tactic(auto, unfolding(crate::specs::Message::head_place))]
 fn head_place(m: &[u8], rest: usize) -> usize
     ensures { result ≡ head_place m.now rest }
 {
@@ -35,13 +34,11 @@ fn head_place(m: &[u8], rest: usize) -> usize
 fn cut_place(m: &[u8], end: usize, rest: usize) -> usize
     ensures { result ≡ cut_place m.now end rest }
 {
-    if m.len() < end {
-        return m.len();
-    }
-    rest
+    if m.len() < end { m.len() } else { rest }
 }
 
 // Before the TLVs; else `rest`.
+#[tactic(auto, unfolding(crate::specs::Message::front_place))]
 fn front_place(m: &[u8], rest: usize) -> usize
     ensures { result ≡ front_place m.now rest }
 {
@@ -51,17 +48,20 @@ fn front_place(m: &[u8], rest: usize) -> usize
 }
 
 // At the wrong octet of a TLV; where there is none, the octets used.
+#[tactic(auto, unfolding(crate::specs::Message::place_with))]
 pub(crate) fn place_with(m: &[u8], t: Tlvs) -> usize
     ensures { result ≡ place_with m.now t }
 {
-    let octet = t.bad;
-    if octet == 0 {
-        return front_place(m, 9 + get_u8(m, 8) as usize);
-    }
-    front_place(m, octet as usize)
+    let octet = if t.bad == 0 {
+        9 + get_u8(m, 8) as usize
+    } else {
+        t.bad as usize
+    };
+    front_place(m, octet)
 }
 
 // Where a fault message goes wrong; of an accepted one the octets used.
+#[tactic(auto, unfolding(crate::specs::Message::fault_place))]
 pub fn fault_place(m: &[u8]) -> usize
     ensures { result ≡ fault_place m.now }
 {

@@ -6,7 +6,8 @@ use octets::{get_u8, get_u32};
 
 // What the TLVs before the place `at` said. bad is 0, or the octet that is wrong, 9 at least; ifid
 // and globalid tell whether an IF_ID and a Global_ID were among them, and node, interface and global
-// are 0 until then. The total length is one octet, so a TLV starts below 9 + 256.
+// are 0 until then: marks and numbers side by side, since `step` and the theorems on a walk that ended at a wrong octet speak
+// of each of them. The total length is one octet, so a TLV starts below 9 + 256.
 #[derive(Clone, Copy)]
 pub(crate) struct Tlvs {
     pub at: u16,
@@ -18,86 +19,87 @@ pub(crate) struct Tlvs {
     pub global: u32,
 }
 
+#[tactic(auto, unfolding(crate::specs::Tlvs::repeated))]
 fn is_repeated(t: Tlvs, kind: u8) -> bool
     ensures { result ≡ repeated t kind }
 {
-    if kind == 1 {
-        return t.ifid;
+    match kind {
+        1 => t.ifid,
+        2 => t.globalid,
+        _ => false,
     }
-    if kind == 2 {
-        return t.globalid;
-    }
-    false
 }
 
+#[tactic(auto, unfolding(crate::specs::Tlvs::right_length))]
 fn has_right_length(kind: u8, size: u8) -> bool
     ensures { result ≡ right_length kind size }
 {
-    if kind == 1 {
-        return size == 8;
+    match kind {
+        1 => size == 8,
+        2 => size == 4,
+        _ => true,
     }
-    if kind == 2 {
-        return size == 4;
-    }
-    true
 }
 
 // The octet that is wrong in the TLV of this type and length at t.at; 0 where none is.
+#[tactic(auto, unfolding(crate::specs::Tlvs::bad_octet))]
 fn bad_octet(t: Tlvs, end: u16, kind: u8, size: u8) -> u16
     requires { t.at < 265 }
     ensures { result ≡ bad_octet t end kind size }
 {
     let at = t.at;
-    if end < at + 2 {
-        return at;
-    }
-    if is_repeated(t, kind) {
+    if end < at + 2 || is_repeated(t, kind) {
         return at;
     }
     if end < at + 2 + size as u16 {
         return at;
     }
     if has_right_length(kind, size) {
-        return 0;
+        0
+    } else {
+        at + 1
     }
-    at + 1
 }
 
 fn pass_tlv(t: Tlvs, size: u8) -> Tlvs
     requires { t.at < 265 }
     ensures { result ≡ passed t size }
 {
-    let mut r = t;
-    r.at = t.at + 2 + size as u16;
-    r
+    Tlvs {
+        at: t.at + 2 + size as u16,
+        ..t
+    }
 }
 
 fn end_with(octet: u16, end: u16, t: Tlvs) -> Tlvs
     ensures { result ≡ ended octet end t }
 {
-    let mut r = t;
-    r.at = end;
-    r.bad = octet;
-    r
+    Tlvs {
+        at: end,
+        bad: octet,
+        ..t
+    }
 }
 
 fn with_if(t: Tlvs, node: u32, interface: u32) -> Tlvs
     ensures { result ≡ with_if t node interface }
 {
-    let mut r = t;
-    r.ifid = true;
-    r.node = node;
-    r.interface = interface;
-    r
+    Tlvs {
+        ifid: true,
+        node,
+        interface,
+        ..t
+    }
 }
 
 fn with_global(t: Tlvs, global: u32) -> Tlvs
     ensures { result ≡ with_global t global }
 {
-    let mut r = t;
-    r.globalid = true;
-    r.global = global;
-    r
+    Tlvs {
+        globalid: true,
+        global,
+        ..t
+    }
 }
 
 // The walk goes on behind the TLV at t.at, or ends at its wrong octet. The value of a TLV that is
@@ -124,6 +126,7 @@ fn step_tlv(m: &[u8], end: u16, t: Tlvs) -> Tlvs
 }
 
 // The TLVs in `total` octets from octet 9 on.
+#[tactic(auto, unfolding(crate::specs::Tlvs::tlvs_of))]
 pub(crate) fn read_tlvs(m: &[u8], total: u8) -> Tlvs
     ensures { result ≡ tlvs_of m.now (9 + total) }
 {

@@ -1,89 +1,71 @@
 // The fault message, written in its plain form: IF_ID, then Global_ID, and nothing else.
 ghost use Rattle.std.specs.Prelude.{◌≡◌, [], length};
+ghost use Rattle.octets.specs.Refusals.{refusal_in};
 ghost use Rattle.octets.specs.Writing.{Written, writing};
 ghost use Rattle.fault.specs.Octets.{if_tlv, global_tlv, total_of, filled, head_octets, all_octets, field_refusal, fault_octets};
 
 use crate::read::range_refusal;
-use crate::{Fault, GlobalId, IfId};
-use octets::{bit, put_octets, write_octets};
+use crate::{Fault, IfId};
+use octets::{Refusal, put_octets, put_u32, write_octets};
 
 // 10 for fields that are out of their range.
-pub fn field_refusal(f: Fault) -> u32
-    ensures { result ≡ field_refusal f }
+pub fn field_refusal(f: Fault) -> Result<(), Refusal>
+    ensures { refusal_in result ≡ field_refusal f }
 {
-    range_refusal(10, f.kind, f.refresh)
+    range_refusal(Refusal::OutOfRange, f.kind, f.refresh)
 }
 
-fn if_size(i: IfId) -> u8
+fn if_size(i: Option<IfId>) -> u8
     ensures { result ≡ length (if_tlv i) }
 {
-    match i {
-        IfId::Absent => 0,
-        IfId::Present(_, _) => 10,
-    }
+    if i.is_some() { 10 } else { 0 }
 }
 
-fn global_size(g: GlobalId) -> u8
+fn global_size(g: Option<u32>) -> u8
     ensures { result ≡ length (global_tlv g) }
 {
-    match g {
-        GlobalId::Absent => 0,
-        GlobalId::Present(_) => 6,
-    }
+    if g.is_some() { 6 } else { 0 }
 }
 
 // How many octets the TLVs are.
 fn total_size(f: Fault) -> u8
     ensures { result ≡ total_of f }
 {
-    let interface = f.interface;
-    let global = f.global;
-    if_size(interface) + global_size(global)
+    if_size(f.interface) + global_size(f.global)
 }
 
 // The octets of an IF_ID, and 0 where there is none.
-fn if_octets(i: IfId) -> [u8; 10]
+fn if_octets(i: Option<IfId>) -> [u8; 10]
     ensures { result ≡ filled 10 (if_tlv i) }
 {
-    match i {
-        IfId::Absent => [0u8; 10],
-        IfId::Present(node, interface) => [
-            1,
-            8,
-            (node / 256 / 256 / 256 % 256) as u8,
-            (node / 256 / 256 % 256) as u8,
-            (node / 256 % 256) as u8,
-            (node % 256) as u8,
-            (interface / 256 / 256 / 256 % 256) as u8,
-            (interface / 256 / 256 % 256) as u8,
-            (interface / 256 % 256) as u8,
-            (interface % 256) as u8,
-        ],
+    let mut o = [0u8; 10];
+    if let Some(id) = i {
+        o[0] = 1;
+        o[1] = 8;
+        put_u32(&mut o, 2, id.node);
+        put_u32(&mut o, 6, id.interface);
     }
+    o
 }
 
 // The octets of a Global_ID, and 0 where there is none.
-fn global_octets(g: GlobalId) -> [u8; 6]
+fn global_octets(g: Option<u32>) -> [u8; 6]
     ensures { result ≡ filled 6 (global_tlv g) }
 {
-    match g {
-        GlobalId::Absent => [0u8; 6],
-        GlobalId::Present(global) => [
-            2,
-            4,
-            (global / 256 / 256 / 256 % 256) as u8,
-            (global / 256 / 256 % 256) as u8,
-            (global / 256 % 256) as u8,
-            (global % 256) as u8,
-        ],
+    let mut o = [0u8; 6];
+    if let Some(global) = g {
+        o[0] = 2;
+        o[1] = 4;
+        put_u32(&mut o, 2, global);
     }
+    o
 }
 
 // The nine octets before the TLVs.
 fn head_octets(f: Fault) -> [u8; 9]
     ensures { result ≡ head_octets f [] }
 {
-    let flags = bit(f.linkdown) * 2 + bit(f.removed);
+    let flags = u8::from(f.linkdown) * 2 + u8::from(f.removed);
     [
         0x10,
         0,
@@ -99,25 +81,26 @@ fn head_octets(f: Fault) -> [u8; 9]
 
 // The octets of the message, and 0 behind them. Where there is no IF_ID, the Global_ID stands in
 // its place.
+#[tactic(auto, unfolding(crate::specs::Octets::all_octets))]
 fn all_octets(f: Fault) -> [u8; 25]
     ensures { result ≡ all_octets f }
 {
-    let interface = f.interface;
-    let global = f.global;
     let mut o = [0u8; 25];
     put_octets(&mut o, 0, &head_octets(f));
-    put_octets(&mut o, 9, &if_octets(interface));
-    let at = 9 + if_size(interface) as usize;
-    put_octets(&mut o, at, &global_octets(global));
+    put_octets(&mut o, 9, &if_octets(f.interface));
+    let at = 9 + if_size(f.interface) as usize;
+    put_octets(&mut o, at, &global_octets(f.global));
     o
 }
 
-// Writes the plain message over the front of b and answers 0; or answers 10 (fields out of range) or
-// 13 (b too short), and then no byte changes.
-pub fn write_fault(b: &mut [u8], f: Fault) -> u32
-    ensures { record { answer = result; buffer = b.new } ≡ writing (field_refusal f) (fault_octets f) b.old }
+// Writes the plain message over the front of b, or refuses, 10 (fields out of range) or 13 (b too short), and then no byte
+// changes.
+#[tactic(auto, unfolding(octets::specs::Writing::writing))]
+pub fn write_fault(b: &mut [u8], f: Fault) -> Result<(), Refusal>
+    ensures { record { answer = refusal_in result; buffer = b.new } ≡ writing (field_refusal f) (fault_octets f) b.old }
 {
+    field_refusal(f)?;
     let o = all_octets(f);
     let size = 9 + total_size(f) as usize;
-    write_octets(b, field_refusal(f), &o[..size])
+    write_octets(b, &o[..size])
 }

@@ -13,7 +13,7 @@ use fault::Fault;
 use gach::{CC_CHANNEL, CV_CHANNEL, header_place};
 use octets::get_u16;
 
-#[derive(Clone, Copy)]
+#[derive(Clone, Copy, Debug, PartialEq, Eq)]
 pub enum Message {
     ContinuityCheck(Packet),
     ConnectivityVerification(Packet, MepId),
@@ -26,15 +26,10 @@ pub enum Message {
 pub fn place_of(m: &[u8]) -> usize
     ensures { result ≡ message_place m.now }
 {
-    let channel = get_u16(m, 2);
-    if channel == DHC_CHANNEL {
-        return header_place(m, m.len());
+    match get_u16(m, 2) {
+        DHC_CHANNEL => header_place(m, m.len()),
+        CC_CHANNEL => bfd::cc_place(m),
+        CV_CHANNEL => cv::cv_place(m),
+        _ => fault::fault_place(m),
     }
-    if channel == CC_CHANNEL {
-        return bfd::cc_place(m);
-    }
-    if channel == CV_CHANNEL {
-        return cv::cv_place(m);
-    }
-    fault::fault_place(m)
 }

@@ -9,10 +9,12 @@ use lib.Dec.{eqb}
 use borrow.Author.Tests.{eqb-true, eq-eqb}
 use Rattle.octets.proofs.Chain.{and_both}
 use Rattle.fault.specs.declared.Fault.{Fault}
+use Rattle.fault.specs.Identifiers.{OptionalIfId}
+use Rattle.fault.specs.Identifiers.{NoIfId}
 use Rattle.fault.specs.declared.IfId.{IfId}
-use Rattle.fault.specs.declared.IfId.TheVariants.{Absent as NoIfId, Present as AnIfId}
-use Rattle.fault.specs.declared.GlobalId.{GlobalId}
-use Rattle.fault.specs.declared.GlobalId.TheVariants.{Absent as NoGlobalId, Present as AGlobalId}
+use Rattle.std.specs.Prelude.{Some}
+use Rattle.fault.specs.Identifiers.{OptionalGlobalId}
+use Rattle.fault.specs.Identifiers.{NoGlobalId, AGlobalId}
 use Rattle.rules.specs.declared.Key.{Key}
 use Rattle.rules.specs.Conditions.{if_id_mark, node_of, interface_of, global_id_mark, global_of, key_of, same_if_id, same_global_id, same_key}
 use Rattle.rules.specs.OneKey.{OneKey, OneCause}
@@ -84,26 +86,29 @@ pub keys-alike : Alike same_key
 keys-alike = record { itself = same_refl; back = same-sym; through = same-trans }
 
 -- the marks in the key of a message
-pub if-id-marked : (i : IfId) → if_id_mark i ≤ 1
+pub if-id-marked : (i : OptionalIfId) → if_id_mark i ≤ 1
 if-id-marked NoIfId = omega arith
-if-id-marked (AnIfId node interface) = omega arith
+if-id-marked (Some i) = omega arith
 
-pub global-id-marked : (g : GlobalId) → global_id_mark g ≤ 1
+pub global-id-marked : (g : OptionalGlobalId) → global_id_mark g ≤ 1
 global-id-marked NoGlobalId = omega arith
 global-id-marked (AGlobalId global) = omega arith
 
--- an identifier is told by its mark and numbers: absent equals absent alone, and 0 is not absent
-if-id-told : (i j : IfId) → if_id_mark i ≡ if_id_mark j → (if_id_mark i ≡ 0) ⊎ ((node_of i ≡ node_of j) × (interface_of i ≡ interface_of j)) → i ≡ j
-if-id-told NoIfId NoIfId m p = refl
-if-id-told NoIfId (AnIfId n k) m p = absurd (omega arith)
-if-id-told (AnIfId n k) NoIfId m p = absurd (omega arith)
-if-id-told (AnIfId n k) (AnIfId o l) m p = ⊎_elim (λ z. absurd (omega arith)) (λ z. rw (z.0, z.1)) p
+if-id-by : (i j : IfId) → i.node ≡ j.node → i.interface ≡ j.interface → i ≡ j
+if-id-by i j n k = ap (λ (x : ℕ). record { node = x; interface = i.interface }) n ∙ ap (λ (x : ℕ). record { node = j.node; interface = x }) k
 
-global-id-told : (g h : GlobalId) → global_id_mark g ≡ global_id_mark h → (global_id_mark g ≡ 0) ⊎ (global_of g ≡ global_of h) → g ≡ h
+-- an identifier is told by its mark and numbers: absent equals absent alone, and 0 is not absent
+if-id-told : (i j : OptionalIfId) → if_id_mark i ≡ if_id_mark j → (if_id_mark i ≡ 0) ⊎ ((node_of i ≡ node_of j) × (interface_of i ≡ interface_of j)) → i ≡ j
+if-id-told NoIfId NoIfId m p = refl
+if-id-told NoIfId (Some j) m p = absurd (omega arith)
+if-id-told (Some i) NoIfId m p = absurd (omega arith)
+if-id-told (Some i) (Some j) m p = ⊎_elim (λ z. absurd (omega arith)) (λ z. ap Some (if-id-by i j z.0 z.1)) p
+
+global-id-told : (g h : OptionalGlobalId) → global_id_mark g ≡ global_id_mark h → (global_id_mark g ≡ 0) ⊎ (global_of g ≡ global_of h) → g ≡ h
 global-id-told NoGlobalId NoGlobalId m p = refl
 global-id-told NoGlobalId (AGlobalId n) m p = absurd (omega arith)
 global-id-told (AGlobalId n) NoGlobalId m p = absurd (omega arith)
-global-id-told (AGlobalId n) (AGlobalId o) m p = ⊎_elim (λ z. absurd (omega arith)) (λ z. ap AGlobalId z) p
+global-id-told (AGlobalId n) (AGlobalId o) m p = ⊎_elim (λ z. absurd (omega arith)) (λ z. ap Some z) p
 
 -- type, Global_ID and IF_ID, each absent or present
 pub key-exactly : (f g : Fault) → (same_key (key_of f) (key_of g) ≡ true) ↔ OneCause f g

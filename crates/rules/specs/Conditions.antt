@@ -2,10 +2,11 @@
 -- Assumes nothing.
 use Rattle.std.specs.Prelude.{ℕ, Bool, cond, not, ◌&&◌, ◌||◌, eqb}
 use Rattle.fault.specs.declared.Fault.{Fault}
-use Rattle.fault.specs.declared.IfId.{IfId}
-use Rattle.fault.specs.declared.IfId.TheVariants.{Absent as NoIfId, Present as AnIfId}
-use Rattle.fault.specs.declared.GlobalId.{GlobalId}
-use Rattle.fault.specs.declared.GlobalId.TheVariants.{Absent as NoGlobalId, Present as AGlobalId}
+use Rattle.fault.specs.Identifiers.{OptionalIfId}
+use Rattle.fault.specs.Identifiers.{NoIfId}
+use Rattle.std.specs.Prelude.{Some}
+use Rattle.fault.specs.Identifiers.{OptionalGlobalId}
+use Rattle.fault.specs.Identifiers.{NoGlobalId, AGlobalId}
 use Rattle.rules.specs.Modes.{moved_in}
 use Rattle.rules.specs.declared.Settings.{Settings}
 use Rattle.rules.specs.declared.Key.{Key}
@@ -15,29 +16,29 @@ use Rattle.rules.specs.declared.Input.{Input}
 use Rattle.rules.specs.declared.Input.TheVariants.{LinkDown, LockReport}
 
 -- an IF_ID in numbers: a mark that is 1 where there is one, and its Node and Interface, 0 where there is none
-abbrev pub if_id_mark : IfId → ℕ
+abbrev pub if_id_mark : OptionalIfId → ℕ
 if_id_mark NoIfId = 0
-if_id_mark (AnIfId node interface) = 1
+if_id_mark (Some i) = 1
 
-abbrev pub node_of : IfId → ℕ
+abbrev pub node_of : OptionalIfId → ℕ
 node_of NoIfId = 0
-node_of (AnIfId node interface) = node
+node_of (Some i) = i.node
 
-abbrev pub interface_of : IfId → ℕ
+abbrev pub interface_of : OptionalIfId → ℕ
 interface_of NoIfId = 0
-interface_of (AnIfId node interface) = interface
+interface_of (Some i) = i.interface
 
 -- a Global_ID likewise
-abbrev pub global_id_mark : GlobalId → ℕ
+abbrev pub global_id_mark : OptionalGlobalId → ℕ
 global_id_mark NoGlobalId = 0
 global_id_mark (AGlobalId global) = 1
 
-abbrev pub global_of : GlobalId → ℕ
+abbrev pub global_of : OptionalGlobalId → ℕ
 global_of NoGlobalId = 0
 global_of (AGlobalId global) = global
 
 -- the key of this type and IF_ID, with the number and the mark of a Global_ID
-abbrev pub key_at : ℕ → IfId → ℕ → ℕ → Key
+abbrev pub key_at : ℕ → OptionalIfId → ℕ → ℕ → Key
 key_at kind interface global carrier =
     record {
       node = node_of interface;
@@ -48,7 +49,7 @@ key_at kind interface global carrier =
       carrier = carrier;
     }
 
-abbrev pub key_with : ℕ → IfId → GlobalId → Key
+abbrev pub key_with : ℕ → OptionalIfId → OptionalGlobalId → Key
 key_with kind interface id = key_at kind interface (global_of id) (global_id_mark id)
 
 -- the key of a message

@@ -10,19 +10,13 @@ use cv::MepId;
 pub fn is_foreign(own: u32, your: u32) -> bool
     ensures { result ≡ foreign own your }
 {
-    if your == 0 {
-        return false;
-    }
-    your != own
+    your != 0 && your != own
 }
 
 // Whether a CV is crossed: by its Your Discriminator, or by its MEP-ID.
+#[tactic(auto, unfolding(cv::specs::MepId::same_mep_id))]
 pub fn cv_crosses(s: Settings, your: u32, id: MepId) -> bool
     ensures { result ≡ (foreign s.discriminator your || not (same_mep_id id s.expected)) }
 {
-    if is_foreign(s.discriminator, your) {
-        return true;
-    }
-    let expected = s.expected;
-    !cv::same_mep_id(id, expected)
+    is_foreign(s.discriminator, your) || !cv::same_mep_id(id, s.expected)
 }

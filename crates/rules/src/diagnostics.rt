@@ -5,34 +5,19 @@ ghost use Rattle.rules.specs.Diagnostics.{says_defect, remote_defect, loss_alarm
 fn says_defect(diagnostic: u8) -> bool
     ensures { result ≡ says_defect diagnostic }
 {
-    if diagnostic == 1 {
-        return true;
-    }
-    if diagnostic == 5 {
-        return true;
-    }
-    diagnostic == 9
+    diagnostic == 1 || diagnostic == 5 || diagnostic == 9
 }
 
 pub fn remote_defect(locked: bool, loss: bool, diagnostic: u8) -> bool
     ensures { result ≡ remote_defect locked loss diagnostic }
 {
-    if locked {
-        return false;
-    }
-    if loss {
-        return false;
-    }
-    says_defect(diagnostic)
+    !locked && !loss && says_defect(diagnostic)
 }
 
 pub fn loss_alarm(loss: bool, conditions: u8) -> bool
     ensures { result ≡ loss_alarm loss conditions }
 {
-    if loss {
-        return conditions == 0;
-    }
-    false
+    loss && conditions == 0
 }
 
 // The order of the diagnostic.

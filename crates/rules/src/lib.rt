@@ -17,9 +17,9 @@ use cv::MepId;
 pub use diagnostics::{diagnostic_of, loss_alarm, remote_defect};
 use fault::Fault;
 pub use keys::{fault_input, is_followed, key_of, same_key};
-pub use modes::{is_exposed, mode_of, move_by, required_interval};
+pub use modes::{is_exposed, move_by, required_interval};
 pub use moves::{
-    coming_up, coordinated_move, down_by_neighbor, heard_input, locked, report_number, state_of,
+    coming_up, coordinated_move, down_by_neighbor, heard_input, locked, report_number,
     stored_number,
 };
 pub use parties::{own_label, party_of};
@@ -27,7 +27,7 @@ pub use ranges::settings_fit;
 pub use times::{detection_time, is_late, is_past, is_within, lifetime_of};
 
 // AdminDown is locked; NeighborDown is DOWN by a received state, remembered until DOWN is left.
-#[derive(Clone, Copy)]
+#[derive(Clone, Copy, Debug, PartialEq, Eq)]
 pub enum State {
     AdminDown,
     Down,
@@ -37,7 +37,7 @@ pub enum State {
 }
 
 // What moves a session: a received state, a loss, LDI, LKR, a crossed message.
-#[derive(Clone, Copy)]
+#[derive(Clone, Copy, Debug, PartialEq, Eq)]
 pub enum Input {
     GotAdminDown,
     GotDown,
@@ -51,7 +51,7 @@ pub enum Input {
 
 // A session of its own for both directions, or of two sessions, one for each direction, the one that sends
 // or the one that only answers (RFC 6428, 3.7).
-#[derive(Clone, Copy)]
+#[derive(Clone, Copy, Debug, PartialEq, Eq)]
 pub enum Mode {
     Coordinated,
     Source,
@@ -95,7 +95,7 @@ pub struct Key {
 }
 
 // What a message is to the session of its label.
-#[derive(Clone, Copy)]
+#[derive(Clone, Copy, Debug, PartialEq, Eq)]
 pub enum Received {
     CrossedMessage,
     HeardCc(Packet),
@@ -104,7 +104,7 @@ pub enum Received {
 }
 
 // The seven numbers of a report.
-#[derive(Clone, Copy)]
+#[derive(Clone, Copy, Debug, PartialEq, Eq)]
 pub struct Report {
     pub state: u8,
     pub crossing: u8,

@@ -7,16 +7,16 @@ use crate::moves::coordinated_move;
 use crate::{Input, Mode, State};
 
 // The mode of its number; every number above 1 is a sink's.
-pub fn mode_of(n: u8) -> Mode
-    ensures { result ≡ mode_of n }
-{
-    if n == 0 {
-        return Mode::Coordinated;
+impl From<u8> for Mode {
+    ghost from_gives = { λ n m. m ≡ mode_of n };
+
+    fn from(n: u8) -> Mode {
+        match n {
+            0 => Mode::Coordinated,
+            1 => Mode::Source,
+            _ => Mode::Sink,
+        }
     }
-    if n == 1 {
-        return Mode::Source;
-    }
-    Mode::Sink
 }
 
 fn source_up_input(input: Input) -> Input
@@ -24,13 +24,7 @@ fn source_up_input(input: Input) -> Input
 {
     match input {
         Input::GotAdminDown => Input::GotAdminDown,
-        Input::GotDown => Input::GotUp,
-        Input::GotInit => Input::GotUp,
-        Input::GotUp => Input::GotUp,
-        Input::Timer => Input::GotUp,
-        Input::LinkDown => Input::GotUp,
-        Input::LockReport => Input::GotUp,
-        Input::Crossed => Input::GotUp,
+        _ => Input::GotUp,
     }
 }
 
@@ -38,11 +32,8 @@ fn source_input(from: State, input: Input) -> Input
     ensures { result ≡ source_input from input }
 {
     match from {
-        State::AdminDown => input,
-        State::Down => input,
-        State::NeighborDown => input,
-        State::Init => input,
         State::Up => source_up_input(input),
+        _ => input,
     }
 }
 
@@ -50,14 +41,8 @@ fn sink_input(input: Input) -> Input
     ensures { result ≡ sink_input input }
 {
     match input {
-        Input::GotAdminDown => Input::GotAdminDown,
-        Input::GotDown => Input::GotDown,
-        Input::GotInit => Input::GotInit,
         Input::GotUp => Input::GotInit,
-        Input::Timer => Input::Timer,
-        Input::LinkDown => Input::LinkDown,
-        Input::LockReport => Input::LockReport,
-        Input::Crossed => Input::Crossed,
+        _ => input,
     }
 }
 
@@ -84,13 +69,7 @@ pub fn move_by(mode: Mode, from: State, input: Input) -> State
 pub fn is_exposed(mode: u8, state: u8) -> bool
     ensures { result ≡ exposed mode state }
 {
-    if state == 0 {
-        return false;
-    }
-    if state != 3 {
-        return true;
-    }
-    mode != 1
+    state != 0 && (state != 3 || mode != 1)
 }
 
 // The required receive interval that a session of the mode writes.
@@ -98,8 +77,7 @@ pub fn required_interval(mode: Mode, period: u32) -> u32
     ensures { result ≡ required_interval mode period }
 {
     match mode {
-        Mode::Coordinated => period,
         Mode::Source => 0,
-        Mode::Sink => period,
+        Mode::Coordinated | Mode::Sink => period,
     }
 }

@@ -10,12 +10,7 @@ fn from_down(input: Input) -> State
     match input {
         Input::GotDown => State::Init,
         Input::GotInit => State::Up,
-        Input::GotUp => State::Down,
-        Input::GotAdminDown => State::Down,
-        Input::Timer => State::Down,
-        Input::LinkDown => State::Down,
-        Input::LockReport => State::Down,
-        Input::Crossed => State::Down,
+        _ => State::Down,
     }
 }
 
@@ -25,12 +20,7 @@ fn from_neighbor_down(input: Input) -> State
     match input {
         Input::GotDown => State::Init,
         Input::GotInit => State::Up,
-        Input::GotUp => State::NeighborDown,
-        Input::GotAdminDown => State::NeighborDown,
-        Input::Timer => State::NeighborDown,
-        Input::LinkDown => State::NeighborDown,
-        Input::LockReport => State::NeighborDown,
-        Input::Crossed => State::NeighborDown,
+        _ => State::NeighborDown,
     }
 }
 
@@ -39,12 +29,9 @@ fn from_init(input: Input) -> State
 {
     match input {
         Input::GotDown => State::Init,
-        Input::GotInit => State::Up,
-        Input::GotUp => State::Up,
+        Input::GotInit | Input::GotUp => State::Up,
         Input::GotAdminDown => State::NeighborDown,
-        Input::Timer => State::Down,
-        Input::LinkDown => State::Down,
-        Input::LockReport => State::Down,
+        Input::Timer | Input::LinkDown | Input::LockReport => State::Down,
         Input::Crossed => State::Down, // not in the figure
     }
 }
@@ -53,14 +40,9 @@ fn from_up(input: Input) -> State
     ensures { result ≡ from_up input }
 {
     match input {
-        Input::GotDown => State::NeighborDown,
-        Input::GotInit => State::Up,
-        Input::GotUp => State::Up,
-        Input::GotAdminDown => State::NeighborDown,
-        Input::Timer => State::Down,
-        Input::LinkDown => State::Down,
-        Input::LockReport => State::Down,
-        Input::Crossed => State::Down,
+        Input::GotInit | Input::GotUp => State::Up,
+        Input::GotDown | Input::GotAdminDown => State::NeighborDown,
+        Input::Timer | Input::LinkDown | Input::LockReport | Input::Crossed => State::Down,
     }
 }
 
@@ -81,16 +63,12 @@ pub fn coordinated_move(from: State, input: Input) -> State
 fn received_input(state: u8) -> Input
     ensures { result ≡ received state }
 {
-    if state == 0 {
-        return Input::GotAdminDown;
+    match state {
+        0 => Input::GotAdminDown,
+        1 => Input::GotDown,
+        2 => Input::GotInit,
+        _ => Input::GotUp,
     }
-    if state == 1 {
-        return Input::GotDown;
-    }
-    if state == 2 {
-        return Input::GotInit;
-    }
-    Input::GotUp
 }
 
 // The state of a heard CC as the session takes it: TIMER while it is held down.
@@ -109,8 +87,7 @@ pub fn report_number(s: State) -> u8
 {
     match s {
         State::AdminDown => 0,
-        State::Down => 1,
-        State::NeighborDown => 1,
+        State::Down | State::NeighborDown => 1,
         State::Init => 2,
         State::Up => 3,
     }
@@ -119,38 +96,20 @@ pub fn report_number(s: State) -> u8
 pub fn locked(s: State) -> bool
     ensures { result ≡ is_locked s }
 {
-    match s {
-        State::AdminDown => true,
-        State::Down => false,
-        State::NeighborDown => false,
-        State::Init => false,
-        State::Up => false,
-    }
+    matches!(s, State::AdminDown)
 }
 
 pub fn down_by_neighbor(s: State) -> bool
     ensures { result ≡ down_by_neighbor s }
 {
-    match s {
-        State::AdminDown => false,
-        State::Down => false,
-        State::NeighborDown => true,
-        State::Init => false,
-        State::Up => false,
-    }
+    matches!(s, State::NeighborDown)
 }
 
 // INIT or UP.
 pub fn coming_up(s: State) -> bool
     ensures { result ≡ is_coming_up s }
 {
-    match s {
-        State::AdminDown => false,
-        State::Down => false,
-        State::NeighborDown => false,
-        State::Init => true,
-        State::Up => true,
-    }
+    matches!(s, State::Init | State::Up)
 }
 
 // The number of a state in a stored record.
@@ -167,20 +126,16 @@ pub fn stored_number(s: State) -> u8
 }
 
 // The state of a stored number; every number above 3 is NeighborDown.
-pub fn state_of(n: u8) -> State
-    ensures { result ≡ state_of n }
-{
-    if n == 0 {
-        return State::AdminDown;
+impl From<u8> for State {
+    ghost from_gives = { λ n s. s ≡ state_of n };
+
+    fn from(n: u8) -> State {
+        match n {
+            0 => State::AdminDown,
+            1 => State::Down,
+            2 => State::Init,
+            3 => State::Up,
+            _ => State::NeighborDown,
+        }
     }
-    if n == 1 {
-        return State::Down;
-    }
-    if n == 2 {
-        return State::Init;
-    }
-    if n == 3 {
-        return State::Up;
-    }
-    State::NeighborDown
 }

@@ -7,48 +7,33 @@ use crate::Settings;
 fn circuit_fits(label: u32, discriminator: u32, period: u32) -> bool
     ensures { result ≡ circuit_fits label discriminator period }
 {
-    if label < 16 {
-        return false;
-    }
-    if 1_048_575 < label {
-        return false;
-    }
-    if discriminator == 0 {
-        return false;
-    }
-    if period < 1_000 {
-        return false;
-    }
-    period <= 10_000_000
+    16 <= label
+        && label <= 1_048_575
+        && discriminator != 0
+        && 1_000 <= period
+        && period <= 10_000_000
 }
 
 // Each MEP-ID by its type and its AGI length.
 fn ends_fit(own: u16, agi: u8, expected: u16, other: u8) -> bool
     ensures { result ≡ ends_fit own agi expected other }
 {
-    octets::both(cv::mep_fits(own, agi), cv::mep_fits(expected, other))
+    cv::mep_fits(own, agi) && cv::mep_fits(expected, other)
 }
 
 // The two marks and the mode.
 fn choices_fit(followlink: u8, followlock: u8, mode: u8) -> bool
     ensures { result ≡ choices_fit followlink followlock mode }
 {
-    if 2 <= followlink {
-        return false;
-    }
-    if 2 <= followlock {
-        return false;
-    }
-    mode < 3
+    followlink < 2 && followlock < 2 && mode < 3
 }
 
 // Every setting in its range.
+#[tactic(auto, unfolding(crate::specs::Settings::settings_fit))]
 pub fn settings_fit(s: Settings) -> bool
     ensures { result ≡ settings_fit s }
 {
-    if circuit_fits(s.label, s.discriminator, s.period) {
-        let ends = ends_fit(s.own.kind, s.own.size, s.expected.kind, s.expected.size);
-        return octets::both(ends, choices_fit(s.followlink, s.followlock, s.mode));
-    }
-    false
+    circuit_fits(s.label, s.discriminator, s.period)
+        && ends_fit(s.own.kind, s.own.size, s.expected.kind, s.expected.size)
+        && choices_fit(s.followlink, s.followlock, s.mode)
 }

@@ -5,37 +5,27 @@ ghost use Rattle.rules.specs.Times.{late, past, within, detection_time, lifetime
 pub const CROSSING_TIME: u64 = 3_500_000;
 
 // Refusal 1: a reading below the clock, or above the greatest.
+#[tactic(auto, unfolding(crate::specs::Times::late))]
 pub fn is_late(clock: u64, reading: u64) -> bool
     ensures { result ≡ late clock reading }
 {
-    if reading < clock {
-        return true;
-    }
-    9_223_372_036_854_775_807 < reading
+    reading < clock || 9_223_372_036_854_775_807 < reading
 }
 
 // More than `span` has gone since `at`.
+#[tactic(auto, unfolding(crate::specs::Times::past))]
 pub fn is_past(at: u64, span: u64, now: u64) -> bool
     ensures { result ≡ past at span now }
 {
-    if at < now {
-        if span < now - at {
-            return true;
-        }
-    }
-    false
+    at < now && span < now - at
 }
 
 // Less than `span` has gone since `at`.
+#[tactic(auto, unfolding(crate::specs::Times::within))]
 pub fn is_within(at: u64, span: u64, now: u64) -> bool
     ensures { result ≡ within at span now }
 {
-    if at <= now {
-        if span <= now - at {
-            return false;
-        }
-    }
-    true
+    now < at || now - at < span
 }
 
 pub fn detection_time(period: u32, multiplier: u8) -> u64

@@ -6,7 +6,7 @@ use mir.Syntax.{w64}
 use mir.Val.{SFits, to_z, of_z}
 use mir.ValLaws.{to_z-of_z}
 use Rattle.account.specs.Figures.{lesser, greater, chosen}
-use Rattle.account.specs.Accounts.{signed, made}
+use Rattle.account.specs.Accounts.{signed, signed_in, made}
 use Rattle.account.proofs.Integers.{small}
 use Rattle.account.proofs.Made.{combined-over, combined-other, combined-made}
 use Rattle.account.proofs.combine.Goals as goal
@@ -34,7 +34,7 @@ returns c =
     let bo : b.over ≡ false = search rules in
     let fa : SFits w64 a.sum = search rules in
     let fb : SFits w64 b.sum = search rules in
-    let sum : c.sum_in-sum.result ≡ signed (a.sum +ℤ b.sum) = c.sum_in-sum.ensures ∙ rw (to_z-of_z w64 a.sum fa, to_z-of_z w64 b.sum fb) in
+    let sum : signed_in c.sum_in-sum.result ≡ signed (a.sum +ℤ b.sum) = c.sum_in-sum.ensures ∙ rw (to_z-of_z w64 a.sum fa, to_z-of_z w64 b.sum fb) in
     c.make.ensures
     ∙ (λ i. made (c.total-pairs.ensures i) (least i) (greatest i) (sum i) (c.total-sizes.ensures i))
     ∙ combined-made a b ao bo al bl ag bg
