@@ -31,7 +31,8 @@ pub struct Conditions {
     pub fourth: Condition,
 }
 
-// What a fault message leaves: the places where it is accepted, and its answer.
+// What a fault message leaves: the places, and its answer. No Result: what the record of a capture notes (`fault_noted`)
+// is said of the places whatever the answer is.
 #[derive(Clone, Copy)]
 pub struct Verdict {
     pub places: Conditions,

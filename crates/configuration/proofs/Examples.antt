@@ -7,7 +7,8 @@ use Rattle.octets.specs.Numbers.{octets_of}
 use Rattle.octets.specs.Choice.{Answer, accepted, refused}
 use Rattle.rules.specs.Lists.{any, only}
 use Rattle.configuration.specs.Entries.{padded_size, entry_at, following, each, with_held, entries_in}
-use Rattle.configuration.specs.Reading.{Offer, wrong_length, number_in, refusal_of, read_configuration}
+use Rattle.configuration.specs.declared.Offer.{Offer}
+use Rattle.configuration.specs.Reading.{wrong_length, number_in, refusal_of, read_configuration}
 use Rattle.configuration.specs.Octets.{configuration_octets}
 
 -- 32-bit numbers as octets

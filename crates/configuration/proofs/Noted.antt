@@ -14,7 +14,8 @@ use Rattle.rules.specs.Lists.{any, only}
 use Rattle.rules.proofs.Bools.{split, same_test}
 use Rattle.configuration.specs.declared.Seen.{Seen}
 use Rattle.configuration.specs.Entries.{Entry, is_functions, is_configuration, is_discriminator, is_timers, entries_in}
-use Rattle.configuration.specs.Reading.{Offer, clashes, wrong_length, count, once_each, number_in, offer_of, offer_fits, refusal_of, read_configuration}
+use Rattle.configuration.specs.declared.Offer.{Offer}
+use Rattle.configuration.specs.Reading.{clashes, wrong_length, count, once_each, number_in, offer_of, offer_fits, refusal_of, read_configuration}
 use Rattle.configuration.specs.Noting.{tally, noted, noted_all, start, seen_refusal}
 
 or_assoc : (x y z : Bool) → (x || y) || z ≡ x || (y || z)

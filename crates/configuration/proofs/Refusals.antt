@@ -17,7 +17,8 @@ use Rattle.rules.proofs.Bools.{no_way, split, both_true, or_cases, or_left, or_r
 use Rattle.rules.proofs.Lists.{any_at, any-who}
 use Rattle.rules.proofs.Failing.{one-fails, nought, nought-fails, and-false}
 use Rattle.configuration.specs.Entries.{Entry, named, is_functions, is_configuration, is_discriminator, is_timers, is_authentication, is_holder, entries_in}
-use Rattle.configuration.specs.Reading.{Offer, clashes, wrong_length, count, once_each, number_in, offer_of, offer_fits, refusal_of, read_configuration}
+use Rattle.configuration.specs.declared.Offer.{Offer}
+use Rattle.configuration.specs.Reading.{clashes, wrong_length, count, once_each, number_in, offer_of, offer_fits, refusal_of, read_configuration}
 use Rattle.configuration.specs.Refused.{Some, Clash, Past, WrongLength, functions_short, configuration_short, discriminator_not_four, timers_not_twelve, authentication_not_four, Needed, MissingOrTwice, missing, twice, UnfitOffer, no_discriminator, period_below, period_above}
 use Rattle.configuration.specs.Refused as words
 

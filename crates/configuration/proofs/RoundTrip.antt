@@ -17,7 +17,8 @@ use Rattle.octets.proofs.Chain.{or_else-passed}
 use Rattle.octets.proofs.Numbers.{read_of}
 use Rattle.rules.specs.Lists.{any, only}
 use Rattle.configuration.specs.Entries.{Entry, padded_size, entry_at, following, each, with_held, entries_in}
-use Rattle.configuration.specs.Reading.{Offer, offer_fits, wrong_length, number_in, refusal_of, read_configuration}
+use Rattle.configuration.specs.declared.Offer.{Offer}
+use Rattle.configuration.specs.Reading.{offer_fits, wrong_length, number_in, refusal_of, read_configuration}
 use Rattle.configuration.specs.Octets.{configuration_octets, offer_refusal}
 use Rattle.configuration.specs.Refused.{UnfitOffer}
 use Rattle.configuration.proofs.Refusals.{unfit-exactly}

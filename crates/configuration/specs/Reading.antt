@@ -2,17 +2,11 @@
 -- Assumes nothing.
 use Rattle.std.specs.Prelude.{ℕ, ◌+◌, List, [], ◌∷◌, Bool, cond, not, ◌&&◌, ◌||◌, length, ltb, eqb}
 use Rattle.octets.specs.Numbers.{number_at}
-use Rattle.octets.specs.Choice.{need, bar, Answer, accepted, refused, answer}
+use Rattle.octets.specs.Choice.{need, bar, Answer, answer}
 use Rattle.rules.specs.Lists.{any, only}
 use Rattle.rules.specs.Settings.{discriminator_fits, period_fits}
-use Rattle.configuration.specs.declared.ConfigurationAnswer.{ConfigurationAnswer}
-use Rattle.configuration.specs.declared.ConfigurationAnswer.TheVariants.{Read, Refused}
+use Rattle.configuration.specs.declared.Offer.{Offer}
 use Rattle.configuration.specs.Entries.{Entry, is_functions, is_configuration, is_discriminator, is_timers, is_authentication, is_holder, entries_in}
-
--- what a configuration carries for a session
-pub record Offer : Type 0 where
-  pub discriminator : ℕ
-  pub period : ℕ
 
 -- "10 before all if two in one holder are equal": BFD Authentication beside Local Discriminator and Negotiation Timer Parameters
 abbrev pub clashes : ℕ → Bool
@@ -60,8 +54,3 @@ refusal_of authentication es =
 -- what reading says of octets; the levels fall from three
 unfoldable pub read_configuration : ℕ → List ℕ → Answer Offer
 read_configuration authentication xs = answer (refusal_of authentication (entries_in 3 xs)) (offer_of (entries_in 3 xs))
-
--- the paper's number and values for each case of the reader's answer
-abbrev pub said : ConfigurationAnswer → Answer Offer
-said (Read discriminator period) = accepted (record { discriminator = discriminator; period = period })
-said (Refused n) = refused n

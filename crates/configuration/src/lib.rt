@@ -10,16 +10,16 @@ mod write;
 pub use read::read_configuration;
 pub use write::write_configuration;
 
-// What reading a configuration says: discriminator and period, or a refusal.
-#[derive(Clone, Copy)]
-pub enum ConfigurationAnswer {
-    Read(u32, u32),
-    Refused(u32),
+// What a configuration offers.
+#[derive(Clone, Copy, Debug, PartialEq, Eq)]
+pub struct Offer {
+    pub discriminator: u32,
+    pub period: u32,
 }
 
 // What was met among the entries so far: the two numbers, how often each needed entry was met (2 for
 // many), whether an entry ran past its holder's end, whether a known one had a wrong length.
-#[derive(Clone, Copy)]
+#[derive(Clone, Copy, Debug, PartialEq, Eq)]
 pub struct Seen {
     pub discriminator: u32,
     pub period: u32,

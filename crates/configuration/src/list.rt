@@ -6,16 +6,18 @@ ghost use Rattle.configuration.specs.Noting.{noted_all};
 
 use crate::Seen;
 use crate::entry::{holds_list, note, padded_size};
-use octets::{from_place, get_u16, least, part};
+use octets::{from_place, get_u16, part};
 
 // Where the entry behind the one at the front begins; the end where there is none.
+#[tactic(auto, unfolding(crate::specs::Entries::padded_size))]
 fn next_place(rest: &[u8]) -> usize
     ensures { result ≡ min (length rest.now) (padded_size (size_of rest.now)) }
 {
-    least(rest.len(), padded_size(get_u16(rest, 2)))
+    rest.len().min(padded_size(get_u16(rest, 2)))
 }
 
 // The entry at the front of `rest`, which reaches to its holder's end, and all that it holds.
+#[tactic(auto, unfolding(crate::specs::Entries::entry_at, crate::specs::Entries::with_held, crate::specs::Noting::noted_all))]
 #[cycle(read_entry_read_list)]
 pub fn read_entry(rest: &[u8], levels: u8, authentication: u16, seen: Seen) -> Seen
     ensures { result ≡ noted_all authentication seen (with_held levels (entry_at levels rest.now)) }
@@ -35,6 +37,7 @@ pub fn read_entry(rest: &[u8], levels: u8, authentication: u16, seen: Seen) -> S
 }
 
 // The entries of a list, one behind the other.
+#[tactic(auto, unfolding(crate::specs::Entries::entries_in, crate::specs::Noting::noted_all))]
 #[cycle(read_entry_read_list)]
 pub fn read_list(list: &[u8], levels: u8, authentication: u16, seen: Seen) -> Seen
     ensures { result ≡ noted_all authentication seen (entries_in levels list.now) }

@@ -1,12 +1,12 @@
 // Reading: everything is met first, then the refusals are told in their order.
 ghost use Rattle.std.specs.Prelude.{◌≡◌};
-ghost use Rattle.octets.specs.Choice.{answer};
-ghost use Rattle.configuration.specs.Reading.{clashes, offer_fits, read_configuration, said};
+ghost use Rattle.octets.specs.Refusals.{refusal_in, answer_in};
+ghost use Rattle.configuration.specs.Reading.{clashes, offer_fits, read_configuration};
 ghost use Rattle.configuration.specs.Noting.{start, seen_once, seen_refusal};
 
 use crate::list::read_list;
-use crate::{ConfigurationAnswer, Seen};
-use octets::{both, either, need, refuse_if};
+use crate::{Offer, Seen};
+use octets::Refusal;
 
 fn nothing_seen() -> Seen
     ensures { result ≡ start }
@@ -27,55 +27,56 @@ fn nothing_seen() -> Seen
 fn has_clash(authentication: u16) -> bool
     ensures { result ≡ clashes authentication }
 {
-    either(authentication == 1, authentication == 2)
+    authentication == 1 || authentication == 2
 }
 
 // Each needed entry was met once.
 fn seen_once(s: Seen) -> bool
     ensures { result ≡ seen_once s }
 {
-    let holders = both(s.functions == 1, s.configurations == 1);
-    both(holders, both(s.discriminators == 1, s.timers == 1))
+    s.functions == 1 && s.configurations == 1 && s.discriminators == 1 && s.timers == 1
 }
 
 // Discriminator and period in their ranges.
 pub fn offer_fits(discriminator: u32, period: u32) -> bool
     ensures { result ≡ offer_fits discriminator period }
 {
-    if discriminator == 0 {
-        return false;
-    }
-    if period < 1_000 {
-        return false;
-    }
-    period <= 10_000_000
+    discriminator != 0 && 1_000 <= period && period <= 10_000_000
 }
 
-fn seen_refusal(authentication: u16, s: Seen) -> u32
-    ensures { result ≡ seen_refusal authentication s }
+#[tactic(auto, unfolding(crate::specs::Noting::seen_refusal))]
+fn seen_refusal(authentication: u16, s: Seen) -> Result<(), Refusal>
+    ensures { refusal_in result ≡ seen_refusal authentication s }
 {
-    let fits = need(offer_fits(s.discriminator, s.period), 10, 0);
-    let once = need(seen_once(s), 18, fits);
-    let lengths = refuse_if(s.wrong, 17, once);
-    let ends = refuse_if(s.past, 16, lengths);
-    refuse_if(has_clash(authentication), 10, ends)
-}
-
-fn configuration_answer(refusal: u32, discriminator: u32, period: u32) -> ConfigurationAnswer
-    ensures { said result ≡ answer refusal (record { discriminator = discriminator; period = period }) }
-{
-    if refusal == 0 {
-        ConfigurationAnswer::Read(discriminator, period)
-    } else {
-        ConfigurationAnswer::Refused(refusal)
+    if has_clash(authentication) {
+        return Err(Refusal::OutOfRange);
     }
+    if s.past {
+        return Err(Refusal::PastHolder);
+    }
+    if s.wrong {
+        return Err(Refusal::WrongLength);
+    }
+    if !seen_once(s) {
+        return Err(Refusal::NotOnce);
+    }
+    if !offer_fits(s.discriminator, s.period) {
+        return Err(Refusal::OutOfRange);
+    }
+    Ok(())
 }
 
 // Reads a list of entries down to three levels; `authentication` is the type of BFD Authentication,
 // for which the draft suggests none.
-pub fn read_configuration(octets: &[u8], authentication: u16) -> ConfigurationAnswer
-    ensures { said result ≡ read_configuration authentication octets.now }
+pub fn read_configuration(octets: &[u8], authentication: u16) -> Result<Offer, Refusal>
+    ensures { answer_in result ≡ read_configuration authentication octets.now }
 {
     let s = read_list(octets, 3, authentication, nothing_seen());
-    configuration_answer(seen_refusal(authentication, s), s.discriminator, s.period)
+    match seen_refusal(authentication, s) {
+        Ok(()) => Ok(Offer {
+            discriminator: s.discriminator,
+            period: s.period,
+        }),
+        Err(refusal) => Err(refusal),
+    }
 }

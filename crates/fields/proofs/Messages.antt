@@ -27,10 +27,11 @@ use Rattle.cv.proofs.Says.{part_length}
 use Rattle.cv.proofs.RoundTrip as cv
 use Rattle.cv.proofs.Used as cv-octets
 use Rattle.fault.specs.declared.Fault.{Fault}
-use Rattle.fault.specs.declared.IfId.{IfId}
-use Rattle.fault.specs.declared.IfId.TheVariants.{Absent as NoIfId, Present as AnIfId}
-use Rattle.fault.specs.declared.GlobalId.{GlobalId}
-use Rattle.fault.specs.declared.GlobalId.TheVariants.{Absent as NoGlobalId, Present as AGlobalId}
+use Rattle.fault.specs.Identifiers.{OptionalIfId}
+use Rattle.fault.specs.Identifiers.{NoIfId}
+use Rattle.std.specs.Prelude.{Some}
+use Rattle.fault.specs.Identifiers.{OptionalGlobalId}
+use Rattle.fault.specs.Identifiers.{NoGlobalId, AGlobalId}
 use Rattle.fault.specs.Message.{tlvs_end, fault_refusal, fault_of, read_fault, fault_reading}
 use Rattle.fault.specs.Octets.{fault_octets, field_refusal}
 use Rattle.fault.specs.Plain.{Sized as FaultSized}
@@ -121,11 +122,11 @@ pub mep-there-and-back : (id : MepId) (pad : List ℕ) → MepSized id → mep_f
     → mep_read (read_mep (mep_octets id ++ pad)) ≡ record { answer = 0; mep = plain_mep id }
 mep-there-and-back id pad t fits = ap mep_read (cv.read-mep-written id pad t fits)
 
-if-id-back : (i : IfId) → if_id_from (if_id_mark i) (node_of i) (interface_of i) ≡ i
+if-id-back : (i : OptionalIfId) → if_id_from (if_id_mark i) (node_of i) (interface_of i) ≡ i
 if-id-back NoIfId = refl
-if-id-back (AnIfId n m) = refl
+if-id-back (Some i) = refl
 
-global-id-back : (g : GlobalId) → global_id_from (global_id_mark g) (global_of g) ≡ g
+global-id-back : (g : OptionalGlobalId) → global_id_from (global_id_mark g) (global_of g) ≡ g
 global-id-back NoGlobalId = refl
 global-id-back (AGlobalId n) = refl
 
@@ -194,13 +195,13 @@ fault-fields-back f e =
     rw (bit-again f.linkdown m.linkdown, bit-again f.removed m.removed, i.0, i.1, i.2, g.0, g.1)
 
 -- a written fault message ends where its own total has it
-written-end : (f : Fault) (i : IfId) (g : GlobalId) (pad : List ℕ) → f.interface ≡ i → f.global ≡ g
+written-end : (f : Fault) (i : OptionalIfId) (g : OptionalGlobalId) (pad : List ℕ) → f.interface ≡ i → f.global ≡ g
     → tlvs_end (fault_octets f ++ pad) ≡ length (fault_octets f)
 unfolding fault_octets
 written-end f NoIfId NoGlobalId pad d e = rw (d, e)
 written-end f NoIfId (AGlobalId n) pad d e = rw (d, e)
-written-end f (AnIfId n m) NoGlobalId pad d e = rw (d, e)
-written-end f (AnIfId n m) (AGlobalId k) pad d e = rw (d, e)
+written-end f (Some i) NoGlobalId pad d e = rw (d, e)
+written-end f (Some i) (AGlobalId k) pad d e = rw (d, e)
 
 -- what a host writes, a host reads, whatever stands behind it: no field is lost
 pub fault-there-and-back : (f : FaultFields) (pad : List ℕ) → FaultSized (fault_from f) → fault_write_refusal f ≡ 0

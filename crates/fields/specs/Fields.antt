@@ -4,10 +4,10 @@ use Rattle.std.specs.Prelude.{ℕ, cond, eqb, leb}
 use Rattle.octets.specs.Choice.{need, bar, or_else, bit_of}
 use Rattle.bfd.specs.declared.Packet.{Packet}
 use Rattle.fault.specs.declared.Fault.{Fault}
-use Rattle.fault.specs.declared.IfId.{IfId}
-use Rattle.fault.specs.declared.IfId.TheVariants.{Absent as NoIfId, Present as AnIfId}
-use Rattle.fault.specs.declared.GlobalId.{GlobalId}
-use Rattle.fault.specs.declared.GlobalId.TheVariants.{Absent as NoGlobalId, Present as AGlobalId}
+use Rattle.fault.specs.Identifiers.{OptionalIfId}
+use Rattle.fault.specs.Identifiers.{NoIfId, AnIfId}
+use Rattle.fault.specs.Identifiers.{OptionalGlobalId}
+use Rattle.fault.specs.Identifiers.{NoGlobalId, AGlobalId}
 use Rattle.rules.specs.Conditions.{key_of}
 use Rattle.fields.specs.declared.fields.PacketFields.{PacketFields}
 use Rattle.fields.specs.declared.fields.FaultFields.{FaultFields}
@@ -69,10 +69,10 @@ fault_fields f =
       globalid = (key_of f).carrier;
     }
 
-abbrev pub if_id_from : ℕ → ℕ → ℕ → IfId
+abbrev pub if_id_from : ℕ → ℕ → ℕ → OptionalIfId
 if_id_from present node interface = cond (eqb present 1) (AnIfId node interface) NoIfId
 
-abbrev pub global_id_from : ℕ → ℕ → GlobalId
+abbrev pub global_id_from : ℕ → ℕ → OptionalGlobalId
 global_id_from present global = cond (eqb present 1) (AGlobalId global) NoGlobalId
 
 abbrev pub fault_from : FaultFields → Fault

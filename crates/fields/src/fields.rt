@@ -1,11 +1,12 @@
 // The fields of a message in numbers alone, so that every bit pattern that a host can hand in is a
 // value: a mark is 0 or 1, and what is above is out of range (10).
 ghost use Rattle.std.specs.Prelude.{◌≡◌};
+ghost use Rattle.octets.specs.Refusals.{refusal_in};
 ghost use Rattle.fields.specs.Fields.{packet_fields, packet_from, packet_marks, fault_fields, if_id_from, global_id_from, fault_from, marked_refusal, fault_marks};
 
 use bfd::Packet;
-use fault::{Fault, GlobalId, IfId};
-use octets::{bit, need, or_else, refuse_if};
+use fault::{Fault, IfId};
+use octets::Refusal;
 
 // A BFD control packet: as `bfd::Packet`, with the marks P, F, C and D as numbers.
 #[repr(C)]
@@ -54,10 +55,10 @@ pub fn packet_fields(p: Packet) -> PacketFields
         diagnostic: p.diagnostic,
         state: p.state,
         multiplier: p.multiplier,
-        poll: bit(p.poll),
-        fin: bit(p.fin),
-        independent: bit(p.independent),
-        demand: bit(p.demand),
+        poll: u8::from(p.poll),
+        fin: u8::from(p.fin),
+        independent: u8::from(p.independent),
+        demand: u8::from(p.demand),
     }
 }
 
@@ -81,11 +82,14 @@ pub fn packet_from(f: PacketFields) -> Packet
 }
 
 // 10 for a mark above 1.
-pub fn packet_marks(f: PacketFields) -> u32
-    ensures { result ≡ packet_marks f }
+#[tactic(auto, unfolding(crate::specs::Fields::packet_marks))]
+pub fn packet_marks(f: PacketFields) -> Result<(), Refusal>
+    ensures { refusal_in result ≡ packet_marks f }
 {
-    let last = need(f.independent <= 1, 10, need(f.demand <= 1, 10, 0));
-    need(f.poll <= 1, 10, need(f.fin <= 1, 10, last))
+    if f.poll > 1 || f.fin > 1 || f.independent > 1 || f.demand > 1 {
+        return Err(Refusal::OutOfRange);
+    }
+    Ok(())
 }
 
 pub fn fault_fields(f: Fault) -> FaultFields
@@ -97,30 +101,24 @@ pub fn fault_fields(f: Fault) -> FaultFields
         interface: key.interface,
         global: key.global,
         kind: f.kind,
-        linkdown: bit(f.linkdown),
-        removed: bit(f.removed),
+        linkdown: u8::from(f.linkdown),
+        removed: u8::from(f.removed),
         refresh: f.refresh,
         ifid: key.present,
         globalid: key.carrier,
     }
 }
 
-fn if_id_from(present: u8, node: u32, interface: u32) -> IfId
+fn if_id_from(present: u8, node: u32, interface: u32) -> Option<IfId>
     ensures { result ≡ if_id_from present node interface }
 {
-    if present == 1 {
-        return IfId::Present(node, interface);
-    }
-    IfId::Absent
+    (present == 1).then_some(IfId { node, interface })
 }
 
-fn global_id_from(present: u8, global: u32) -> GlobalId
+fn global_id_from(present: u8, global: u32) -> Option<u32>
     ensures { result ≡ global_id_from present global }
 {
-    if present == 1 {
-        return GlobalId::Present(global);
-    }
-    GlobalId::Absent
+    (present == 1).then_some(global)
 }
 
 pub fn fault_from(f: FaultFields) -> Fault
@@ -137,24 +135,25 @@ pub fn fault_from(f: FaultFields) -> Fault
 }
 
 // 10 for a mark above 1, and for a number that is not 0 behind a mark of 0.
-fn marked_refusal(mark: u8, number: u32) -> u32
-    ensures { result ≡ marked_refusal mark number }
+#[tactic(auto, unfolding(crate::specs::Fields::marked_refusal))]
+fn marked_refusal(mark: u8, number: u32) -> Result<(), Refusal>
+    ensures { refusal_in result ≡ marked_refusal mark number }
 {
-    need(
-        mark <= 1,
-        10,
-        refuse_if(mark == 1, 0, need(number == 0, 10, 0)),
-    )
+    if mark > 1 || (mark != 1 && number != 0) {
+        return Err(Refusal::OutOfRange);
+    }
+    Ok(())
 }
 
 // 10 for a mark above 1, or a number that would be lost.
-pub fn fault_marks(f: FaultFields) -> u32
-    ensures { result ≡ fault_marks f }
+#[tactic(auto, unfolding(crate::specs::Fields::fault_marks))]
+pub fn fault_marks(f: FaultFields) -> Result<(), Refusal>
+    ensures { refusal_in result ≡ fault_marks f }
 {
-    let interface = or_else(
-        marked_refusal(f.ifid, f.node),
-        marked_refusal(f.ifid, f.interface),
-    );
-    let last = or_else(interface, marked_refusal(f.globalid, f.global));
-    need(f.linkdown <= 1, 10, need(f.removed <= 1, 10, last))
+    if f.linkdown > 1 || f.removed > 1 {
+        return Err(Refusal::OutOfRange);
+    }
+    marked_refusal(f.ifid, f.node)?;
+    marked_refusal(f.ifid, f.interface)?;
+    marked_refusal(f.globalid, f.global)
 }

@@ -1,17 +1,17 @@
 // The readers of messages, for a host: an answer is one struct of numbers, 0 and the fields, or a
 // refusal and noughts; and in either case a place, where the message went wrong or the octets used.
 ghost use Rattle.std.specs.Prelude.{◌≡◌};
-ghost use Rattle.bfd.specs.Packet.{said as ccSaid};
+ghost use Rattle.octets.specs.Refusals.{answer_in, placed_in};
 ghost use Rattle.bfd.specs.Reception.{cc_reading};
-ghost use Rattle.cv.specs.MepId.{mep_said, no_agi, read_mep};
-ghost use Rattle.cv.specs.Cv.{said as cvSaid};
-ghost use Rattle.fault.specs.Message.{said as faultSaid, fault_reading};
+ghost use Rattle.cv.specs.MepId.{no_agi, read_mep};
+ghost use Rattle.fault.specs.Message.{fault_reading};
 ghost use Rattle.fields.specs.Messages.{no_packet, no_mep, no_fault, cc_read, cv_read, cv_read_of, mep_read, fault_read};
 
 use crate::fields::{FaultFields, PacketFields, fault_fields, packet_fields};
-use bfd::CcAnswer;
-use cv::{Agi, CvAnswer, MepAnswer, MepId};
-use fault::FaultAnswer;
+use bfd::Packet;
+use cv::{Agi, MepId, Verification};
+use fault::Fault;
+use octets::{Misread, Refusal};
 
 #[repr(C)]
 #[derive(Clone, Copy)]
@@ -83,9 +83,8 @@ fn no_agi() -> Agi
 fn no_mep() -> MepId
     ensures { result ≡ no_mep }
 {
-    let agi = no_agi();
     MepId {
-        agi,
+        agi: no_agi(),
         global: 0,
         node: 0,
         local: 0,
@@ -111,93 +110,72 @@ fn no_fault() -> FaultFields
     }
 }
 
-fn cc_read(a: CcAnswer) -> CcRead
-    ensures { result ≡ cc_read (ccSaid a) }
+fn cc_read(a: Result<(Packet, usize), Misread>) -> CcRead
+    ensures { result ≡ cc_read (placed_in a) }
 {
     match a {
-        CcAnswer::Read(p, place) => {
-            let f = packet_fields(p);
-            CcRead {
-                place: place as u64,
-                answer: 0,
-                packet: f,
-            }
-        }
-        CcAnswer::Refused(n, place) => {
-            let f = no_packet();
-            CcRead {
-                place: place as u64,
-                answer: n,
-                packet: f,
-            }
-        }
+        Ok((packet, place)) => CcRead {
+            place: place as u64,
+            answer: 0,
+            packet: packet_fields(packet),
+        },
+        Err(e) => CcRead {
+            place: e.place as u64,
+            answer: u32::from(e.refusal),
+            packet: no_packet(),
+        },
     }
 }
 
-fn cv_read(part: u32, octets: u32, a: CvAnswer) -> CvRead
-    ensures { result ≡ cv_read part octets (cvSaid a) }
+fn cv_read(part: u32, octets: u32, a: Result<(Verification, usize), Misread>) -> CvRead
+    ensures { result ≡ cv_read part octets (placed_in a) }
 {
     match a {
-        CvAnswer::Read(v, place) => {
-            let p = v.packet;
-            let f = packet_fields(p);
-            let id = v.mep;
-            CvRead {
-                place: place as u64,
-                answer: 0,
-                part: part,
-                octets: octets,
-                packet: f,
-                mep: id,
-            }
-        }
-        CvAnswer::Refused(n, place) => {
-            let f = no_packet();
-            let id = no_mep();
-            CvRead {
-                place: place as u64,
-                answer: n,
-                part: 0,
-                octets: 0,
-                packet: f,
-                mep: id,
-            }
-        }
+        Ok((v, place)) => CvRead {
+            place: place as u64,
+            answer: 0,
+            part,
+            octets,
+            packet: packet_fields(v.packet),
+            mep: v.mep,
+        },
+        Err(e) => CvRead {
+            place: e.place as u64,
+            answer: u32::from(e.refusal),
+            part: 0,
+            octets: 0,
+            packet: no_packet(),
+            mep: no_mep(),
+        },
     }
 }
 
-fn mep_read(a: MepAnswer) -> MepIdRead
-    ensures { result ≡ mep_read (mep_said a) }
+fn mep_read(a: Result<MepId, Refusal>) -> MepIdRead
+    ensures { result ≡ mep_read (answer_in a) }
 {
     match a {
-        MepAnswer::Read(id) => MepIdRead { answer: 0, mep: id },
-        MepAnswer::Refused(n) => {
-            let id = no_mep();
-            MepIdRead { answer: n, mep: id }
-        }
+        Ok(mep) => MepIdRead { answer: 0, mep },
+        Err(refusal) => MepIdRead {
+            answer: u32::from(refusal),
+            mep: no_mep(),
+        },
     }
 }
 
-fn fault_read(a: FaultAnswer) -> FaultRead
-    ensures { result ≡ fault_read (faultSaid a) }
+fn fault_read(a: Result<(Fault, usize), Misread>) -> FaultRead
+    ensures { result ≡ fault_read (placed_in a) }
 {
     match a {
-        FaultAnswer::Read(fault, place) => {
-            let f = fault_fields(fault);
-            FaultRead {
-                place: place as u64,
-                answer: 0,
-                fault: f,
-            }
-        }
-        FaultAnswer::Refused(n, place) => {
-            let f = no_fault();
-            FaultRead {
-                place: place as u64,
-                answer: n,
-                fault: f,
-            }
-        }
+        Ok((fault, place)) => FaultRead {
+            place: place as u64,
+            answer: 0,
+            fault: fault_fields(fault),
+        },
+        Err(e) => FaultRead {
+            place: e.place as u64,
+            answer: u32::from(e.refusal),
+            fault: no_fault(),
+        },
     }
 }
 
@@ -218,6 +196,7 @@ pub fn read_cv(message: &[u8]) -> CvRead
 }
 
 // Reads a MEP-ID alone, from its octets, type to end.
+#[tactic(auto, unfolding(cv::specs::MepId::read_mep))]
 pub fn read_mep_id(octets: &[u8]) -> MepIdRead
     ensures { result ≡ mep_read (read_mep octets.now) }
 {

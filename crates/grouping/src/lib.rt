@@ -6,16 +6,11 @@
 ghost use Rattle.std.specs.Prelude.{◌≡◌};
 ghost use Rattle.grouping.specs.Grouped.{holds_group};
 
-use octets::both;
 use session::Session;
 
 // A record whose label is of this party and whose group has this ID.
 pub fn holds_group(r: Session, party: u32, id: u32) -> bool
     ensures { result ≡ holds_group party id r }
 {
-    let group = r.group;
-    both(
-        rules::party_of(r.settings.label) == party,
-        homing::has_id(group, id),
-    )
+    rules::party_of(r.settings.label) == party && homing::has_id(r.group, id)
 }

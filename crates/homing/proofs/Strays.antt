@@ -8,21 +8,22 @@ use borrow.Author.Tests.{eqb-false, ne_eqb}
 use Rattle.rules.proofs.Bools.{no_way}
 use Rattle.rules.proofs.Failing.{one-fails, and-false}
 use Rattle.coordination.specs.declared.Dhc.{Dhc}
-use Rattle.coordination.specs.declared.PwStatus.{PwStatus}
-use Rattle.coordination.specs.declared.PwStatus.TheVariants.{Absent as NoStatus, Present as AStatus}
-use Rattle.coordination.specs.declared.NodeSwitching.{NodeSwitching}
-use Rattle.coordination.specs.declared.NodeSwitching.TheVariants.{Absent as NoSwitching, Present as ASwitching}
+use Rattle.std.specs.Prelude.{Some}
+use Rattle.coordination.specs.Carried.{OptionalStatus}
+use Rattle.coordination.specs.Carried.{NoStatus, AStatus}
+use Rattle.coordination.specs.Carried.{OptionalSwitching}
+use Rattle.coordination.specs.Carried.{NoSwitching, ASwitching}
 use Rattle.homing.specs.declared.Group.{Group}
 use Rattle.homing.specs.Messages.{status_from_peer, switching_from_peer, takes_from}
 use Rattle.homing.specs.Stray.{StrayStatus, StraySwitching, Stray, none_set, other_id, other_label, status_source, switching_source}
 
-status-strays : (peer : ℕ) (s : PwStatus) → (status_from_peer peer s ≡ false) ↔ StrayStatus peer s
+status-strays : (peer : ℕ) (s : OptionalStatus) → (status_from_peer peer s ≡ false) ↔ StrayStatus peer s
 status-strays peer NoStatus = (λ e. no_way refl e, λ w. absurd w)
-status-strays peer (AStatus destination source pw protection degrade fail) = (eqb-false source peer, ne_eqb source peer)
+status-strays peer (Some st) = (eqb-false st.source peer, ne_eqb st.source peer)
 
-switching-strays : (peer : ℕ) (s : NodeSwitching) → (switching_from_peer peer s ≡ false) ↔ StraySwitching peer s
+switching-strays : (peer : ℕ) (s : OptionalSwitching) → (switching_from_peer peer s ≡ false) ↔ StraySwitching peer s
 switching-strays peer NoSwitching = (λ e. no_way refl e, λ w. absurd w)
-switching-strays peer (ASwitching destination source pw switch protection) = (eqb-false source peer, ne_eqb source peer)
+switching-strays peer (Some sw) = (eqb-false sw.source peer, ne_eqb sw.source peer)
 
 module _ (label : ℕ) (d : Dhc) (g : Group) where
   told : takes_from label d g ≡ false → Stray label d g

@@ -2,20 +2,21 @@
 -- Assumes nothing.
 use Rattle.std.specs.Prelude.{ℕ, ◌≡◌}
 use Rattle.coordination.specs.declared.Dhc.{Dhc}
-use Rattle.coordination.specs.declared.PwStatus.{PwStatus}
-use Rattle.coordination.specs.declared.PwStatus.TheVariants.{Absent as NoStatus, Present as AStatus}
-use Rattle.coordination.specs.declared.NodeSwitching.{NodeSwitching}
-use Rattle.coordination.specs.declared.NodeSwitching.TheVariants.{Absent as NoSwitching, Present as ASwitching}
+use Rattle.std.specs.Prelude.{Some}
+use Rattle.coordination.specs.Carried.{OptionalStatus}
+use Rattle.coordination.specs.Carried.{NoStatus, AStatus}
+use Rattle.coordination.specs.Carried.{OptionalSwitching}
+use Rattle.coordination.specs.Carried.{NoSwitching, ASwitching}
 use Rattle.homing.specs.declared.Group.{Group}
 
 -- the source of a TLV that is there is another than this node
-abbrev pub StrayStatus : ℕ → PwStatus → Type 0
+abbrev pub StrayStatus : ℕ → OptionalStatus → Type 0
 StrayStatus peer NoStatus = ⊥
-StrayStatus peer (AStatus destination source pw protection degrade fail) = source ≡ peer → ⊥
+StrayStatus peer (Some st) = st.source ≡ peer → ⊥
 
-abbrev pub StraySwitching : ℕ → NodeSwitching → Type 0
+abbrev pub StraySwitching : ℕ → OptionalSwitching → Type 0
 StraySwitching peer NoSwitching = ⊥
-StraySwitching peer (ASwitching destination source pw switch protection) = source ≡ peer → ⊥
+StraySwitching peer (Some sw) = sw.source ≡ peer → ⊥
 
 -- of a message on a label and a group
 pub data Stray (label : ℕ) (d : Dhc) (g : Group) : Type 0 where

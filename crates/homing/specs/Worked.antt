@@ -2,10 +2,10 @@
 -- Assumes nothing.
 use Rattle.std.specs.Prelude.{ℕ, ◌≡◌, Bool, true, false, List, [], ◌∷◌}
 use Rattle.coordination.specs.declared.Dhc.{Dhc}
-use Rattle.coordination.specs.declared.PwStatus.{PwStatus}
-use Rattle.coordination.specs.declared.PwStatus.TheVariants.{Absent as NoStatus, Present as AStatus}
-use Rattle.coordination.specs.declared.NodeSwitching.{NodeSwitching}
-use Rattle.coordination.specs.declared.NodeSwitching.TheVariants.{Absent as NoSwitching, Present as ASwitching}
+use Rattle.coordination.specs.Carried.{OptionalStatus}
+use Rattle.coordination.specs.Carried.{NoStatus, AStatus}
+use Rattle.coordination.specs.Carried.{OptionalSwitching}
+use Rattle.coordination.specs.Carried.{NoSwitching, ASwitching}
 use Rattle.homing.specs.declared.GroupSettings.{GroupSettings}
 use Rattle.homing.specs.declared.GroupReport.{GroupReport}
 use Rattle.homing.specs.declared.Found.{Found}
@@ -24,10 +24,10 @@ Hold f (line ∷ lines) = (f line.0 ≡ line.1) × Hold f lines
 abbrev setting : ℕ → GroupSettings
 setting role = record { id = 7; peer = 55; service = 100; dni = 101; role = role }
 
-abbrev status : ℕ → Bool → PwStatus
+abbrev status : ℕ → Bool → OptionalStatus
 status source fail = AStatus 1 source 2 true true fail
 
-abbrev switching : ℕ → Bool → NodeSwitching
+abbrev switching : ℕ → Bool → OptionalSwitching
 switching source switch = ASwitching 1 source 2 switch true
 
 -- a message of the peer: S, then F

@@ -7,39 +7,19 @@ use crate::Group;
 fn marks_fit(role: u8, pw: u8, ac: u8) -> bool
     ensures { result ≡ marks_fit role pw ac }
 {
-    if 2 <= role {
-        return false;
-    }
-    if 2 <= pw {
-        return false;
-    }
-    ac < 2
+    role < 2 && pw < 2 && ac < 2
 }
 
 fn dni_fits(label: u32, dni: u32) -> bool
     ensures { result ≡ dni_fits label dni }
 {
-    if dni < 16 {
-        return false;
-    }
-    if 1_048_575 < dni {
-        return false;
-    }
-    if dni == label {
-        return false;
-    }
-    rules::party_of(dni) == rules::party_of(label)
+    16 <= dni && dni <= 1_048_575 && dni != label && rules::party_of(dni) == rules::party_of(label)
 }
 
 // The most common record has no group: one number is looked at.
+#[tactic(auto, unfolding(crate::specs::Fitting::group_fits))]
 pub fn group_fits(label: u32, g: Group) -> bool
     ensures { result ≡ group_fits label g }
 {
-    if g.set == 0 {
-        return true;
-    }
-    if g.set == 1 {
-        return octets::both(marks_fit(g.role, g.pw, g.ac), dni_fits(label, g.dni));
-    }
-    false
+    g.set == 0 || (g.set == 1 && marks_fit(g.role, g.pw, g.ac) && dni_fits(label, g.dni))
 }

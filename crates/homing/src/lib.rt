@@ -43,7 +43,7 @@ pub struct GroupSettings {
 
 // What the table knows of the labels and the ID that setting names: whether the party has the service PW
 // open, and the DNI-PW; whether the service PW has a group; whether some group of the party has the ID.
-#[derive(Clone, Copy)]
+#[derive(Clone, Copy, Debug, PartialEq, Eq)]
 pub struct Found {
     pub service: bool,
     pub dni: bool,

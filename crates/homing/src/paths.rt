@@ -9,19 +9,12 @@ use crate::{Group, GroupReport};
 fn behavior_of(pw: bool, ac: bool, up: bool) -> u8
     ensures { result ≡ behavior pw ac up }
 {
-    if pw {
-        if ac {
-            return 1;
-        }
-        if up {
-            return 2;
-        }
-        return 0;
+    match (pw, ac, up) {
+        (true, true, _) => 1,
+        (true, false, true) => 2,
+        (false, true, true) => 3,
+        (true, false, false) | (false, _, _) => 0,
     }
-    if octets::both(ac, up) {
-        return 3;
-    }
-    0
 }
 
 pub fn forwarding_of(pw: u8, ac: u8, up: bool) -> u8

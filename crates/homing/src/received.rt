@@ -4,30 +4,29 @@ ghost use Rattle.homing.specs.Messages.{has_id, status_from_peer, switching_from
 
 use crate::Group;
 use coordination::{Dhc, NodeSwitching, PwStatus};
-use octets::{both, either};
 
 // A group that is there, of this ID.
 pub fn has_id(g: Group, id: u32) -> bool
     ensures { result ≡ has_id id g }
 {
-    both(g.set == 1, g.id == id)
+    g.set == 1 && g.id == id
 }
 
-fn status_from_peer(peer: u32, s: PwStatus) -> bool
-    ensures { result ≡ status_from_peer peer s }
+fn status_from_peer(peer: u32, status: Option<PwStatus>) -> bool
+    ensures { result ≡ status_from_peer peer status }
 {
-    match s {
-        PwStatus::Absent => true,
-        PwStatus::Present(_, source, _, _, _, _) => source == peer,
+    match status {
+        None => true,
+        Some(s) => s.source == peer,
     }
 }
 
-fn switching_from_peer(peer: u32, s: NodeSwitching) -> bool
-    ensures { result ≡ switching_from_peer peer s }
+fn switching_from_peer(peer: u32, switching: Option<NodeSwitching>) -> bool
+    ensures { result ≡ switching_from_peer peer switching }
 {
-    match s {
-        NodeSwitching::Absent => true,
-        NodeSwitching::Present(_, source, _, _, _) => source == peer,
+    match switching {
+        None => true,
+        Some(w) => w.source == peer,
     }
 }
 
@@ -35,32 +34,29 @@ fn switching_from_peer(peer: u32, s: NodeSwitching) -> bool
 pub fn takes_from(g: Group, d: Dhc, label: u32) -> bool
     ensures { result ≡ takes_from label d g }
 {
-    let status = d.status;
-    let switching = d.switching;
-    let sources = both(
-        status_from_peer(g.peer, status),
-        switching_from_peer(g.peer, switching),
-    );
-    both(has_id(g, d.id), both(g.dni == label, sources))
+    has_id(g, d.id)
+        && g.dni == label
+        && status_from_peer(g.peer, d.status)
+        && switching_from_peer(g.peer, d.switching)
 }
 
 // F.
-fn says_fail(s: PwStatus) -> bool
-    ensures { result ≡ fails s }
+fn says_fail(status: Option<PwStatus>) -> bool
+    ensures { result ≡ fails status }
 {
-    match s {
-        PwStatus::Absent => false,
-        PwStatus::Present(_, _, _, _, _, fail) => fail,
+    match status {
+        None => false,
+        Some(s) => s.fail,
     }
 }
 
 // S.
-fn says_switch(s: NodeSwitching) -> bool
-    ensures { result ≡ switches s }
+fn says_switch(switching: Option<NodeSwitching>) -> bool
+    ensures { result ≡ switches switching }
 {
-    match s {
-        NodeSwitching::Absent => false,
-        NodeSwitching::Present(_, _, _, switch, _) => switch,
+    match switching {
+        None => false,
+        Some(w) => w.switch,
     }
 }
 
@@ -68,24 +64,17 @@ fn switched_pw(switch: bool, fail: bool, role: u8, pw: u8) -> u8
     ensures { result ≡ switched_pw switch fail role pw }
 {
     if role == 0 {
-        if switch {
-            return 0;
-        }
-        return pw;
+        return if switch { 0 } else { pw };
     }
-    if either(switch, fail) {
-        return 1;
-    }
-    pw
+    if switch || fail { 1 } else { pw }
 }
 
 // A message that is taken.
 pub fn coordinated_by(g: Group, d: Dhc) -> Group
     ensures { result ≡ coordinated d g }
 {
-    let status = d.status;
-    let switching = d.switching;
-    let mut next = g;
-    next.pw = switched_pw(says_switch(switching), says_fail(status), g.role, g.pw);
-    next
+    Group {
+        pw: switched_pw(says_switch(d.switching), says_fail(d.status), g.role, g.pw),
+        ..g
+    }
 }

@@ -1,10 +1,11 @@
 // Setting a group.
 ghost use Rattle.std.specs.Prelude.{◌≡◌};
 ghost use Rattle.homing.specs.Groups.{one_of_two, no_group, first_pw, grouped};
+ghost use Rattle.octets.specs.Refusals.{refusal_in};
 ghost use Rattle.homing.specs.Setting.{set_refusal};
 
 use crate::{Found, Group, GroupSettings};
-use octets::{either, need, refuse_if};
+use octets::Refusal;
 
 pub fn no_group() -> Group
     ensures { result ≡ no_group }
@@ -24,23 +25,18 @@ pub fn no_group() -> Group
 pub fn one_of_two(n: u8) -> u8
     ensures { result ≡ one_of_two n }
 {
-    if n == 0 {
-        return 0;
-    }
-    1
+    n.min(1)
 }
 
 // The PW at setting and at return.
 pub fn first_pw(role: u8, loss: bool, crossing: bool) -> u8
     ensures { result ≡ first_pw role loss crossing }
 {
-    if role == 0 {
-        if either(loss, crossing) {
-            return 0;
-        }
-        return 1;
+    if role == 0 && !loss && !crossing {
+        1
+    } else {
+        0
     }
-    0
 }
 
 // A new group, while a loss or a crossing of its service PW stands or not.
@@ -58,11 +54,18 @@ pub fn group_of(s: GroupSettings, loss: bool, crossing: bool) -> Group
     }
 }
 
-// What setting is refused for, 0 for nothing.
-pub fn set_refusal(s: GroupSettings, f: Found) -> u32
-    ensures { result ≡ set_refusal s f }
+// What setting is refused for.
+pub fn set_refusal(s: GroupSettings, f: Found) -> Result<(), Refusal>
+    ensures { refusal_in result ≡ set_refusal s f }
 {
-    let second = refuse_if(f.grouped, 11, refuse_if(f.taken, 11, 0));
-    let labels = refuse_if(s.service == s.dni, 10, second);
-    need(f.service, 2, need(f.dni, 2, labels))
+    if !f.service || !f.dni {
+        return Err(Refusal::NotOpen);
+    }
+    if s.service == s.dni {
+        return Err(Refusal::OutOfRange);
+    }
+    if f.grouped || f.taken {
+        return Err(Refusal::Taken);
+    }
+    Ok(())
 }

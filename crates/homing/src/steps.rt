@@ -9,45 +9,42 @@ use crate::setting::{first_pw, one_of_two};
 pub fn ac_set(g: Group, ac: u8) -> Group
     ensures { result ≡ ac_set ac g }
 {
-    let mut next = g;
-    next.ac = one_of_two(ac);
-    next
+    Group {
+        ac: one_of_two(ac),
+        ..g
+    }
 }
 
 // Return.
 pub fn returned_at(g: Group, loss: bool, crossing: bool) -> Group
     ensures { result ≡ returned loss crossing g }
 {
-    let mut next = g;
-    next.pw = first_pw(g.role, loss, crossing);
-    next
+    Group {
+        pw: first_pw(g.role, loss, crossing),
+        ..g
+    }
 }
 
 // A working PE's PW to standby, a protection PE's as it is.
 pub fn lowered_pw(role: u8, pw: u8) -> u8
     ensures { result ≡ lowered role pw }
 {
-    if role == 0 {
-        return 0;
-    }
-    pw
+    if role == 0 { 0 } else { pw }
 }
 
 // The PW alone where TIMER is given: it is all that a loss moves of a group.
 pub fn fallen_pw(loss: bool, role: u8, pw: u8) -> u8
     ensures { result ≡ cond loss (lowered role pw) pw }
 {
-    if loss {
-        return lowered_pw(role, pw);
-    }
-    pw
+    if loss { lowered_pw(role, pw) } else { pw }
 }
 
 // Where TIMER is given, with a loss or without.
 pub fn fallen_at(g: Group, loss: bool) -> Group
     ensures { result ≡ fallen loss g }
 {
-    let mut next = g;
-    next.pw = fallen_pw(loss, g.role, g.pw);
-    next
+    Group {
+        pw: fallen_pw(loss, g.role, g.pw),
+        ..g
+    }
 }

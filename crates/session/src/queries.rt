@@ -9,37 +9,35 @@ use bfd::Packet;
 use cv::CvOctets;
 use gach::CC_CHANNEL;
 use homing::Group;
-use octets::{bit, both};
-use rules::{Input, Report, State};
+use rules::{Input, Mode, Report, State};
 
 pub fn is_locked(s: Session) -> bool
     ensures { result ≡ locked_in s }
 {
-    rules::locked(rules::state_of(s.state))
+    rules::locked(State::from(s.state))
 }
 
 // A loss: more than the detection time, not locked, and no source in UP. Most are not late, so that is
 // asked first.
+#[tactic(auto, unfolding(crate::specs::Queries::loss_at))]
 pub fn loss_at(s: Session, now: u64) -> bool
     ensures { result ≡ loss_at s now }
 {
     let span = rules::detection_time(s.settings.period, s.peer.multiplier);
-    if rules::is_past(s.timed, span, now) {
-        return rules::is_exposed(s.settings.mode, s.state);
-    }
-    false
+    rules::is_past(s.timed, span, now) && rules::is_exposed(s.settings.mode, s.state)
 }
 
 // A crossing: less than its time since the last crossed message.
+#[tactic(auto, unfolding(crate::specs::Queries::crossing_at))]
 pub fn crossing_at(s: Session, now: u64) -> bool
     ensures { result ≡ crossing_at s now }
 {
-    let marked = s.crossing == 1;
-    both(marked, rules::is_within(s.crossed, 3_500_000, now))
+    s.crossing == 1 && rules::is_within(s.crossed, 3_500_000, now)
 }
 
 // A crossing stands, or a condition that the session follows. Every heard CC asks, and most sessions
 // have no condition, or none that they follow: that is asked first, of the record where it lies.
+#[tactic(auto, unfolding(crate::specs::Queries::defect_at))]
 fn defect_at(s: Session, now: u64) -> bool
     ensures { result ≡ defect_at s now }
 {
@@ -56,21 +54,16 @@ fn defect_at(s: Session, now: u64) -> bool
     }
     let link = s.settings.followlink;
     let lock = s.settings.followlock;
-    let places = s.conditions;
-    if conditions::any_marked(link, lock, places) {
-        return conditions::any_followed(link, lock, places, now);
-    }
-    false
+    conditions::any_marked(link, lock, s.conditions)
+        && conditions::any_followed(link, lock, s.conditions, now)
 }
 
 // Held down: a coordinated session with such a defect.
+#[tactic(auto, unfolding(crate::specs::Queries::held_at))]
 pub(crate) fn held_at(s: Session, now: u64) -> bool
     ensures { result ≡ held_at s now }
 {
-    if s.settings.mode != 0 {
-        return false;
-    }
-    defect_at(s, now)
+    s.settings.mode == 0 && defect_at(s, now)
 }
 
 // A session with a loss is no source in UP, and TIMER moves all others alike.
@@ -78,28 +71,30 @@ fn after_timer(loss: bool, from: State) -> State
     ensures { result ≡ cond loss (moved from Timer) from }
 {
     if loss {
-        return rules::coordinated_move(from, Input::Timer);
+        rules::coordinated_move(from, Input::Timer)
+    } else {
+        from
     }
-    from
 }
 
 // The state at a clock: a session with a loss has been given TIMER.
+#[tactic(auto, unfolding(crate::specs::Queries::state_at))]
 pub fn state_at(s: Session, now: u64) -> State
     ensures { result ≡ state_at s now }
 {
-    let loss = loss_at(s, now);
-    after_timer(loss, rules::state_of(s.state))
+    after_timer(loss_at(s, now), State::from(s.state))
 }
 
 // The group at a clock: a loss has made a working PE's PW standby.
+#[tactic(auto, unfolding(crate::specs::Queries::group_at))]
 pub fn group_at(s: Session, now: u64) -> Group
     ensures { result ≡ group_at s now }
 {
-    let group = s.group;
-    homing::fallen_at(group, loss_at(s, now))
+    homing::fallen_at(s.group, loss_at(s, now))
 }
 
 // Its PW alone.
+#[tactic(auto, unfolding(crate::specs::Queries::group_at))]
 pub(crate) fn pw_at(s: Session, now: u64) -> u8
     ensures { result ≡ (group_at s now).pw }
 {
@@ -107,57 +102,57 @@ pub(crate) fn pw_at(s: Session, now: u64) -> u8
 }
 
 // The seven numbers of the report.
+#[tactic(auto, unfolding(crate::specs::Queries::report_at))]
 pub fn report_at(s: Session, now: u64) -> Report
     ensures { result ≡ report_at s now }
 {
-    let places = s.conditions;
-    let locked = is_locked(s);
-    let crossing = bit(crossing_at(s, now));
+    let crossing = u8::from(crossing_at(s, now));
     let loss = loss_at(s, now);
-    let count = conditions::count_at(places, now);
+    let count = conditions::count_at(s.conditions, now);
     let alarm = rules::loss_alarm(loss, count);
-    let rdi = rules::remote_defect(locked, loss, s.peer.diagnostic);
-    let state = state_at(s, now);
+    let rdi = rules::remote_defect(is_locked(s), loss, s.peer.diagnostic);
     Report {
-        state: rules::report_number(state),
-        crossing: crossing,
-        loss: bit(loss),
-        alarm: bit(alarm),
-        rdi: bit(rdi),
+        state: rules::report_number(state_at(s, now)),
+        crossing,
+        loss: u8::from(loss),
+        alarm: u8::from(alarm),
+        rdi: u8::from(rdi),
         blocked: crossing,
         conditions: count,
     }
 }
 
 // The diagnostic to write.
+#[tactic(auto, unfolding(crate::specs::Queries::diagnostic_at))]
 pub fn diagnostic_at(s: Session, now: u64) -> u8
     ensures { result ≡ diagnostic_at s now }
 {
-    let places = s.conditions;
-    let locked = is_locked(s);
-    let crossing = crossing_at(s, now);
     let followed = conditions::any_followed(
         s.settings.followlink,
         s.settings.followlock,
-        places,
+        s.conditions,
         now,
     );
-    let loss = loss_at(s, now);
-    let neighbor = rules::down_by_neighbor(state_at(s, now));
-    rules::diagnostic_of(locked, crossing, followed, loss, neighbor)
+    rules::diagnostic_of(
+        is_locked(s),
+        crossing_at(s, now),
+        followed,
+        loss_at(s, now),
+        rules::down_by_neighbor(state_at(s, now)),
+    )
 }
 
 // The packet to write, with the F flag that is asked for.
+#[tactic(auto, unfolding(crate::specs::Queries::packet_at))]
 pub fn packet_at(s: Session, now: u64, fin: bool) -> Packet
     ensures { result ≡ packet_at s now fin }
 {
-    let state = state_at(s, now);
-    let required = rules::required_interval(rules::mode_of(s.settings.mode), s.settings.period);
+    let required = rules::required_interval(Mode::from(s.settings.mode), s.settings.period);
     Packet {
         diagnostic: diagnostic_at(s, now),
-        state: rules::report_number(state),
+        state: rules::report_number(state_at(s, now)),
         poll: false,
-        fin: fin,
+        fin,
         independent: false,
         demand: false,
         multiplier: 3,
@@ -170,6 +165,7 @@ pub fn packet_at(s: Session, now: u64, fin: bool) -> Packet
 }
 
 // The 28 octets of the CC, with F where a reply is owed.
+#[tactic(auto, unfolding(crate::specs::Queries::cc_octets_at))]
 pub fn cc_octets_at(s: Session, now: u64) -> [u8; 28]
     ensures { result ≡ cc_octets_at s now }
 {
@@ -181,14 +177,13 @@ pub fn cc_octets_at(s: Session, now: u64) -> [u8; 28]
 pub fn cv_size_of(s: Session) -> usize
     ensures { result ≡ cv_size_of s }
 {
-    let own = s.settings.own;
-    28 + cv::mep_size(own)
+    28 + cv::mep_size(s.settings.own)
 }
 
 // The octets of the CV, and how many they are.
+#[tactic(auto, unfolding(crate::specs::Queries::cv_whole_at))]
 pub fn cv_octets_at(s: Session, now: u64) -> CvOctets
     ensures { result ≡ cv_whole_at s now }
 {
-    let own = s.settings.own;
-    cv::cv_octets(packet_at(s, now, false), own)
+    cv::cv_octets(packet_at(s, now, false), s.settings.own)
 }

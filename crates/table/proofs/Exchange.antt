@@ -4,8 +4,7 @@
 use Prim.Native.Nat.{ℕ, ◌/◌, ◌≤◌}
 use native.Mathlib.Omega.{arith}
 use mathlib.Core.Path.{◌≡◌, refl, sym, ap, ◌∙◌}
-use mathlib.Core.Bool.{Bool, true, false, cond}
-use mathlib.Core.Option.{Option}
+use mathlib.Core.Bool.{true, false}
 use mathlib.Core.List.{List, [], ◌∷◌}
 use lib.ListN.{get_or, set}
 use lib.Dec.{eqb, ltb}
@@ -15,7 +14,7 @@ use Rattle.octets.proofs.Chain.{bar-passed}
 use Rattle.message.specs.Message.{message_of}
 use Rattle.rules.specs.Times.{latest, late}
 use Rattle.rules.specs.Received.{received_as}
-use Rattle.rules.specs.Calls.{Receive, Call, Tick, On, Said, is_accepted, number_only}
+use Rattle.rules.specs.Calls.{Receive, Call, Tick, On, is_accepted, number_only}
 use Rattle.rules.proofs.Bools.{split, no_way, or_right, refuted, true-false}
 use Rattle.rules.proofs.Ages.{not_late}
 use Rattle.session.specs.declared.Session.{Session}

@@ -6,11 +6,9 @@ use native.Mathlib.Omega.{arith}
 use mathlib.Core.Path.{◌≡◌, refl, sym, ap, ◌∙◌}
 use mathlib.Core.Bool.{true, false, cond, not}
 use mathlib.Core.List.{List, [], ◌∷◌}
-use lib.Dec.{ltb}
 use lib.ListN.{length, get_or}
-use borrow.Author.Tests.{eqb-true, eq-eqb, ne_eqb, lt-ltb, le-ltb, ltb-true, ltb-false, not-true}
+use borrow.Author.Tests.{eqb-true, eq-eqb, ne_eqb, ltb-true, not-true}
 use Rattle.octets.proofs.Chain.{and_both}
-use Rattle.rules.specs.declared.Settings.{Settings}
 use Rattle.rules.specs.Lists.{any, once}
 use Rattle.rules.proofs.Bools.{split, refuted, true-false}
 use Rattle.rules.proofs.Fitting.{settings-say}

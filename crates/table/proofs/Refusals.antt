@@ -1,16 +1,14 @@
 -- A refused call leaves row, clock and set as they were, says its number alone and leaves a lent buffer as it was: for every table, sound or not.
 -- Assumes nothing.
-use Prim.Native.Nat.{ℕ, ◌<◌}
-use mathlib.Core.Path.{◌≡◌, refl, sym, ap, ◌∙◌}
-use mathlib.Core.Bool.{Bool, true, false, cond}
+use Prim.Native.Nat.{ℕ}
+use mathlib.Core.Path.{◌≡◌, refl}
+use mathlib.Core.Bool.{false}
 use mathlib.Core.Option.{Option, none, some}
 use mathlib.Core.List.{List}
 use lib.ListN.{length}
 use lib.Dec.{ltb, eqb}
-use borrow.Author.Tests.{ltb-true}
-use Rattle.octets.specs.Writing.{Written, writing}
-use Rattle.octets.proofs.Writing.{short}
-use Rattle.rules.specs.Calls.{Act, Close, Lock, Unlock, Receive, ReportOn, WriteCc, WriteCv, Call, Tick, Open, On, Said, is_accepted, number_only, no_report, reporting, writes}
+use Rattle.octets.specs.Writing.{writing}
+use Rattle.rules.specs.Calls.{Act, Close, Lock, Unlock, Receive, ReportOn, WriteCc, WriteCv, Call, Tick, Open, On, is_accepted, number_only, no_report, writes}
 use Rattle.rules.proofs.Bools.{split, no_way}
 use Rattle.session.specs.declared.Session.{Session}
 use Rattle.table.specs.Table.{Table, write_answer, report_answer, act_answer, asked, answer, next}

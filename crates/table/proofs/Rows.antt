@@ -5,7 +5,7 @@ use native.Mathlib.Omega.{arith}
 use native.Mathlib.Nat.{pow-suc}
 use mathlib.Core.Path.{◌≡◌, refl, sym, ap, ◌∙◌, subst}
 use mathlib.Core.Bool.{Bool, true, false, cond, not, ◌&&◌, ◌||◌}
-use mathlib.Core.Option.{Option, none, some, map}
+use mathlib.Core.Option.{none, some, map}
 use mathlib.Core.List.{List, [], ◌∷◌, Memᴰ}
 use lib.Dec.{eqb}
 use lib.ListN.{length, get_or, set}
@@ -16,7 +16,7 @@ use Rattle.rules.proofs.Bools.{split, no_way, or_left, or_right, refuted, true-f
 use Rattle.rules.proofs.Lists.{Inserted, here, there, any_at, any_same}
 use Rattle.session.specs.declared.Session.{Session}
 use Rattle.table.specs.Places.{first_on, lowest_free, occupied_of, opens, has_label, place_of}
-use Rattle.table.specs.Table.{find, is_found}
+use Rattle.table.specs.Table.{find}
 
 -- the first record with a label, altered
 unfoldable pub update : ℕ → (Session → Session) → List Session → List Session

@@ -33,14 +33,13 @@ pub fn first_head() -> Head
 pub fn absent() -> Session
     ensures { result ≡ Table.absent }
 {
-    let agi = Agi {
-        first: 0,
-        second: 0,
-        third: 0,
-        fourth: 0,
-    };
     let id = MepId {
-        agi,
+        agi: Agi {
+            first: 0,
+            second: 0,
+            third: 0,
+            fourth: 0,
+        },
         global: 0,
         node: 0,
         local: 0,

@@ -16,37 +16,33 @@ pub fn open_count(occupied: u64) -> u32
     u64::count_ones(occupied)
 }
 
+#[tactic(auto, unfolding(crate::specs::Places::occupied_at))]
 pub fn is_occupied(occupied: u64, place: u32) -> bool
     ensures { result ≡ occupied_at occupied place }
 {
-    if 64 <= place {
-        return false;
-    }
-    (occupied >> place) % 2 == 1
+    place < 64 && (occupied >> place) % 2 == 1
 }
 
 // The set with a place taken; past the 64 nothing changes.
+#[tactic(auto, unfolding(crate::specs::Places::with_place))]
 pub fn with_place(occupied: u64, place: u32) -> u64
     ensures { result ≡ with_place occupied place }
 {
-    if 64 <= place {
-        return occupied;
+    if place < 64 && !is_occupied(occupied, place) {
+        occupied + (1u64 << place)
+    } else {
+        occupied
     }
-    if is_occupied(occupied, place) {
-        return occupied;
-    }
-    occupied + (1u64 << place)
 }
 
 // The set with a place free.
+#[tactic(auto, unfolding(crate::specs::Places::without_place))]
 pub fn without_place(occupied: u64, place: u32) -> u64
     ensures { result ≡ without_place occupied place }
 {
-    if 64 <= place {
-        return occupied;
+    if place < 64 && is_occupied(occupied, place) {
+        occupied - (1u64 << place)
+    } else {
+        occupied
     }
-    if is_occupied(occupied, place) {
-        return occupied - (1u64 << place);
-    }
-    occupied
 }

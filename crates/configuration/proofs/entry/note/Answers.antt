@@ -1,4 +1,3 @@
-use borrow.Author.Rules.{rules}
 use Rattle.configuration.specs.Reading.{wrong_length}
 use Rattle.configuration.specs.Noting.{noted}
 use Rattle.configuration.proofs.entry.note.Goals as goal
@@ -6,9 +5,7 @@ use Rattle.configuration.proofs.entry.note.Goals as goal
 pub returns : goal.returns
 unfolding noted wrong_length
 returns c = rw (
-  c.either-2.ensures,
   c.wrong_length.ensures,
-  c.either.ensures,
   c.tallied-4.ensures,
   c.tallied-3.ensures,
   c.tallied-2.ensures,

@@ -1,19 +1,21 @@
 use mathlib.Core.Path.{◌≡◌, refl, sym, ap, ◌∙◌}
-use Rattle.bfd.specs.Packet.{packet_of}
 use Prim.Native.Nat.{ℕ}
+use Rattle.bfd.specs.Packet.{packet_of}
 use Rattle.octets.specs.Choice.{or_else}
+use Rattle.octets.proofs.Found.{number_found}
 use Rattle.session.specs.Reception.{bfd_answer}
 use Rattle.session.proofs.LiveMessages.{cv_crosses, cv-refused, cv-crossed, cv-heard}
-use borrow.Author.Rules.{rules}
 use Rattle.session.proofs.acts.cv_act.Goals as goal
 
-pub returns-then-n-ne0 : goal.returns-then-n-ne0
-returns-then-n-ne0 c = let a = c.args in
-    c.refused.ensures ∙ cv-refused a.s a.m.now a.reading _ (c.refusal_for-n.ensures ∙ ap (λ (n : ℕ). or_else n (bfd_answer a.s)) c.cv_body_refusal.ensures) c.if-n-ne0.true
+pub returns-in-Err : goal.returns-in-Err
+returns-in-Err c = let a = c.args in
+    let r = c.in-Err.refusal in
+    c.refused.ensures
+    ∙ cv-refused a.s a.m.now a.reading _ (c.in-Err.ensures ∙ ap (λ (n : ℕ). or_else n (bfd_answer a.s)) c.cv_body_refusal.ensures) (number_found r)
 
 pub returns-then-cv_crosses : goal.returns-then-cv_crosses
 returns-then-cv_crosses c = let a = c.args in
-    let none = sym (c.refusal_for-n.ensures ∙ ap (λ (n : ℕ). or_else n (bfd_answer a.s)) c.cv_body_refusal.ensures) ∙ c.if-n-ne0.false in
+    let none = sym (c.in_default.ensures ∙ ap (λ (n : ℕ). or_else n (bfd_answer a.s)) c.cv_body_refusal.ensures) in
     let crossed : c.cv_crosses.result ≡ cv_crosses a.s a.m.now =
     c.cv_crosses.ensures
     ∙ rw (c.source_of.ensures, c.get_u32.ensures) (unfold packet_of in refl) in
@@ -21,7 +23,7 @@ returns-then-cv_crosses c = let a = c.args in
 
 pub returns : goal.returns
 returns c = let a = c.args in
-    let none = sym (c.refusal_for-n.ensures ∙ ap (λ (n : ℕ). or_else n (bfd_answer a.s)) c.cv_body_refusal.ensures) ∙ c.if-n-ne0.false in
+    let none = sym (c.in_default.ensures ∙ ap (λ (n : ℕ). or_else n (bfd_answer a.s)) c.cv_body_refusal.ensures) in
     let crossed : c.cv_crosses.result ≡ cv_crosses a.s a.m.now =
     c.cv_crosses.ensures
     ∙ rw (c.source_of.ensures, c.get_u32.ensures) (unfold packet_of in refl) in

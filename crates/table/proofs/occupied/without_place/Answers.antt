@@ -1,24 +1,17 @@
-use Prim.Native.Nat.{ℕ, ◌-◌, ◌≤◌}
-use mathlib.Core.Path.{sym, ap, ◌∙◌, subst}
-use borrow.Author.Rules.{rules}
+use mathlib.Core.Path.{sym, ◌∙◌}
 use native.Mathlib.Omega.{arith}
-use Rattle.table.proofs.OccupiedSet.{free-past, occupied-within, shifted_one, without-taken, without-free}
+use Rattle.table.proofs.OccupiedSet.{free-past, occupied-within, shifted_one, without-free}
 use Rattle.table.proofs.occupied.without_place.Goals as goal
-
-pub returns-then-place-ge64 : goal.returns-then-place-ge64
-returns-then-place-ge64 c =
-    without-free c.args.occupied c.args.place (free-past 64 c.args.occupied c.args.place (omega arith) c.if-place-ge64.true)
+use Rattle.table.proofs.occupied.without_place.Goals.{else-place-lt64-via-then-place-lt64+else-is_occupied, else-place-lt64-via-else-place-lt64}
 
 pub overflow_sub-result : goal.overflow_sub-result
 overflow_sub-result c =
-    subst (λ (p : ℕ). p ≤ c.args.occupied) (sym (shifted_one 64 c.args.place c.if-place-ge64.false))
-    (occupied-within c.args.occupied c.args.place (sym c.is_occupied.ensures ∙ c.if-is_occupied.true))
+    omega (arith, shifted_one 64 c.args.place c.if-place-lt64.true, occupied-within c.args.occupied c.args.place (sym c.is_occupied.ensures ∙ c.if-is_occupied.true))
 
-pub returns-then-is_occupied : goal.returns-then-is_occupied
-returns-then-is_occupied c =
-    ap (λ (p : ℕ). c.args.occupied - p) (shifted_one 64 c.args.place c.if-place-ge64.false)
-    ∙ without-taken c.args.occupied c.args.place (sym c.is_occupied.ensures ∙ c.if-is_occupied.true)
-
-pub returns : goal.returns
-returns c =
-    without-free c.args.occupied c.args.place (sym c.is_occupied.ensures ∙ c.if-is_occupied.false)
+pub returns-else-place-lt64 : goal.returns-else-place-lt64
+returns-else-place-lt64 c =
+    without-free c.args.occupied c.args.place
+    (elim c.else-place-lt64.branch [
+      | else-place-lt64-via-then-place-lt64+else-is_occupied w ↦ sym w.is_occupied.ensures ∙ w.if-is_occupied.false
+      | else-place-lt64-via-else-place-lt64 w ↦ free-past 64 c.args.occupied c.args.place (omega arith) w.if-place-lt64.false
+    ])

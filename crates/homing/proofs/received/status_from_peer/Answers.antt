@@ -1,5 +1,0 @@
-use borrow.Author.Rules.{rules}
-use Rattle.homing.proofs.received.status_from_peer.Goals as goal
-
-pub returns-in-Present : goal.returns-in-Present
-returns-in-Present c = rw c.in-Present.is
