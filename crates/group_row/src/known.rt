@@ -6,6 +6,7 @@ use group_step::{GroupOutcome, GroupRequest, GroupSeen};
 use session::Session;
 use table::Head;
 
+#[tactic(auto, unfolding(group_step::specs::GroupStepping::group_at))]
 pub fn group_at(row: &mut [Session], head: Head, seen: GroupSeen, q: GroupRequest) -> GroupOutcome
     ensures { record { outcome = result; row = row.new } ≡ group_at row.old head seen q }
 {

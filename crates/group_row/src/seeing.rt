@@ -9,49 +9,20 @@ use group_step::{GroupSeen, GroupTarget};
 use session::Session;
 use table::Head;
 
-fn occupied_of(head: Head) -> u64
-    ensures { result ≡ head.occupied }
-{
-    head.occupied
-}
-
-fn second_of(t: GroupTarget) -> u32
-    ensures { result ≡ t.second }
-{
-    t.second
-}
-
-// No discriminator is looked for: 0 is none.
-fn no_discriminator(_t: GroupTarget) -> u32
-    ensures { result ≡ 0 }
-{
-    0
-}
-
-fn party_of(t: GroupTarget) -> u32
-    ensures { result ≡ t.party }
-{
-    t.party
-}
-
-fn id_of(t: GroupTarget) -> u32
-    ensures { result ≡ t.id }
-{
-    t.id
-}
-
-// The place of the second label.
+// The place of the second label. No discriminator is looked for: 0 is none.
+#[tactic(auto, unfolding(table::specs::Places::first_hit))]
 fn second_place(row: &[Session], head: Head, t: GroupTarget) -> usize
     ensures { result ≡ first_hit t.second 0 head.occupied row.now }
 {
-    row::find(row, occupied_of(head), second_of(t), no_discriminator(t))
+    row::find(row, head.occupied, t.second, 0)
 }
 
 // The place of the group.
+#[tactic(auto, unfolding(group_step::specs::GroupSeeing::holder_place))]
 fn holder_place(row: &[Session], head: Head, t: GroupTarget) -> usize
     ensures { result ≡ holder_place t.party t.id head.occupied row.now }
 {
-    find_group(row, occupied_of(head), party_of(t), id_of(t))
+    find_group(row, head.occupied, t.party, t.id)
 }
 
 pub fn group_seen(row: &[Session], head: Head, t: GroupTarget) -> GroupSeen

@@ -8,7 +8,6 @@ ghost use Rattle.group_step.specs.GroupStepping.{named_by, held_by, heard_on, ta
 use crate::{GroupRequest, GroupSeen, GroupTarget};
 use coordination::DHC_CHANNEL;
 use homing::GroupSettings;
-use octets::both;
 use scan::{Summary, Target};
 use session::Session;
 
@@ -19,7 +18,7 @@ fn named_by(party: u32, s: GroupSettings) -> GroupTarget
     GroupTarget {
         label: rules::own_label(party, s.service),
         second: rules::own_label(party, s.dni),
-        party: party,
+        party,
         id: s.id,
         named: true,
     }
@@ -32,8 +31,8 @@ fn held_by(party: u32, id: u32) -> GroupTarget
     GroupTarget {
         label: 0,
         second: 0,
-        party: party,
-        id: id,
+        party,
+        id,
         named: false,
     }
 }
@@ -43,10 +42,10 @@ fn heard_on(label: u32, id: u32) -> GroupTarget
     ensures { result ≡ heard_on label id }
 {
     GroupTarget {
-        label: label,
+        label,
         second: 0,
         party: rules::party_of(label),
-        id: id,
+        id,
         named: false,
     }
 }
@@ -56,10 +55,9 @@ pub fn group_target(q: GroupRequest) -> GroupTarget
 {
     match q {
         GroupRequest::Set(p, s, _) => named_by(p, s),
-        GroupRequest::Ac(p, id, _, _) => held_by(p, id),
-        GroupRequest::Return(p, id, _) => held_by(p, id),
+        GroupRequest::Ac(p, id, _, _) | GroupRequest::Return(p, id, _) | GroupRequest::Ask(p, id) =>
+            { held_by(p, id) }
         GroupRequest::Heard(l, _, d, _) => heard_on(l, d.id),
-        GroupRequest::Ask(p, id) => held_by(p, id),
     }
 }
 
@@ -77,18 +75,13 @@ pub fn plain_target(t: GroupTarget) -> Target
 pub fn is_holder(rest: u64, r: Session, party: u32, id: u32) -> bool
     ensures { result ≡ (first_on rest && holds_group party id r) }
 {
-    let g = r.group;
-    let own = rules::party_of(r.settings.label) == party;
-    both(rest % 2 == 1, both(own, homing::has_id(g, id)))
+    rest % 2 == 1 && rules::party_of(r.settings.label) == party && homing::has_id(r.group, id)
 }
 
 fn met_at(named: bool, place: usize, holder: usize) -> usize
     ensures { result ≡ cond named place holder }
 {
-    if named {
-        return place;
-    }
-    holder
+    if named { place } else { holder }
 }
 
 // From what a scan says, the place of the second label, and that of the group.
@@ -108,15 +101,13 @@ pub fn seen_by(s: Summary, second: usize, holder: usize, t: GroupTarget) -> Grou
 pub fn is_dhc(m: &[u8]) -> bool
     ensures { result ≡ is_dhc m.now }
 {
-    let refusal = gach::header_refusal(m);
-    both(refusal == 0, octets::get_u16(m, 2) == DHC_CHANNEL)
+    gach::header_refusal(m).is_ok() && octets::get_u16(m, 2) == DHC_CHANNEL
 }
 
 // A DHC message that came on a label.
 pub fn heard(label: u32, m: &[u8], reading: u64) -> GroupRequest
     ensures { result ≡ heard_of label m.now reading }
 {
-    let n = coordination::dhc_refusal(m);
-    let d = coordination::dhc_fields(m);
-    GroupRequest::Heard(label, n, d, reading)
+    let n = octets::answer_number(coordination::dhc_refusal(m));
+    GroupRequest::Heard(label, n, coordination::dhc_fields(m), reading)
 }

@@ -15,7 +15,8 @@ use table::Head;
 
 // The calls on groups. The operator's bring the party first: setting, with the settings and a reading;
 // the AC, with ID, AC and reading; return, with ID and reading; asking, with the ID, and no reading. A
-// DHC message brings the label that it came on, the reader's refusal, what was read, and a reading.
+// DHC message brings the label that it came on, the reader's refusal, what was read, and a reading. The refusal is a number:
+// `answer_of` is said of every one.
 #[derive(Clone, Copy)]
 pub enum GroupRequest {
     Set(u32, GroupSettings, u64),
@@ -56,7 +57,8 @@ pub struct GroupTold {
     pub ac: u8,
 }
 
-// What comes of a call: clock and set afterwards, what it tells, the answer.
+// What comes of a call: clock and set afterwards, what it tells, the answer. The answer is a number, 0 where nothing is
+// refused: the C interface returns it, and the theorems on a group's step speak of it.
 #[derive(Clone, Copy)]
 pub struct GroupOutcome {
     pub head: Head,

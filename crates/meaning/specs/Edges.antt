@@ -6,8 +6,8 @@ use Rattle.bfd.specs.Octets.{cc_octets}
 use Rattle.cv.specs.declared.MepId.{MepId}
 use Rattle.cv.specs.MepId.{no_agi}
 use Rattle.cv.specs.Cv.{cv_octets}
-use Rattle.fault.specs.declared.IfId.TheVariants.{Absent as NoIfId}
-use Rattle.fault.specs.declared.GlobalId.TheVariants.{Absent as NoGlobalId}
+use Rattle.fault.specs.Identifiers.{NoIfId}
+use Rattle.fault.specs.Identifiers.{NoGlobalId}
 use Rattle.fault.specs.Octets.{fault_octets}
 use Rattle.rules.specs.declared.Settings.{Settings}
 use Rattle.rules.specs.Calls.{Receive, ReportOn, WriteCc, Call, Tick, Open, On, Said, number_only, no_report, reporting}

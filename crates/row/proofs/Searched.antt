@@ -2,6 +2,7 @@
 -- length. What is left of the row goes on as the whole began.
 --     hit-here, hit_later      at a record: it is the first hit, or the first hit is behind it
 --     at-end                   where no place or no record is left there is none
+--     no_more                  behind the last record there is no more to look at
 -- Assumes nothing.
 use mathlib.Core.Path.{◌≡◌, refl, sym, ap, ◌∙◌}
 use mathlib.Core.Bool.{Bool, true, false, not, cond, ◌&&◌}
@@ -18,12 +19,19 @@ use borrow.Author.Tests.{eqb-true, ltb-true, ltb-false}
 abbrev pub more_of : ℕ → ℕ → ℕ → Bool
 more_of set i n = not (eqb set 0) && ltb i n
 
+no_record : (a : Bool) → a && false ≡ false
+no_record true = refl
+no_record false = refl
+
 both : (a b : Bool) → a && b ≡ true → b ≡ true
 both true b e = e
 both false b e = cc
 
 pub within : (set i n : ℕ) → more_of set i n ≡ true → i < n
 within set i n e = ltb-true i n (both (not (eqb set 0)) (ltb i n) e)
+
+pub no_more : (set i n : ℕ) → ltb i n ≡ false → more_of set i n ≡ false
+no_more set i n e = ap (λ (t : Bool). not (eqb set 0) && t) e ∙ no_record (not (eqb set 0))
 
 -- one of the two has failed
 by-test : {C : Type 0} (set i n : ℕ) (a : Bool) → a ≡ eqb set 0 → not a && ltb i n ≡ false → (set ≡ 0 → C) → (n ≤ i → C) → C

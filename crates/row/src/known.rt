@@ -11,6 +11,7 @@ use step::{Arrival, Opening, Outcome, Request};
 use table::Head;
 
 // A call that brings numbers alone.
+#[tactic(auto, unfolding(step::specs::Stepping::obey_at))]
 pub fn obey_at(row: &mut [Session], head: Head, seen: Summary, q: Request) -> Outcome
     ensures { record { outcome = result; row = row.new } ≡ obey_at row.old head seen q }
 {
@@ -21,6 +22,7 @@ pub fn obey_at(row: &mut [Session], head: Head, seen: Summary, q: Request) -> Ou
 }
 
 // An open.
+#[tactic(auto, unfolding(step::specs::Stepping::open_at))]
 pub fn open_at(row: &mut [Session], head: Head, seen: Summary, g: Opening) -> Outcome
     ensures { record { outcome = result; row = row.new } ≡ open_at row.old head seen g }
 {

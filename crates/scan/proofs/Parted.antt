@@ -2,8 +2,8 @@
 -- Assumes nothing.
 use Prim.Native.Nat.{ℕ, ◌+◌, ◌-◌, ◌<◌}
 use native.Mathlib.Omega.{arith}
-use mathlib.Core.Path.{◌≡◌, refl, sym, ap, ◌∙◌}
-use mathlib.Core.Bool.{Bool, true, false, ◌&&◌}
+use mathlib.Core.Path.{◌≡◌, ap, ◌∙◌}
+use mathlib.Core.Bool.{false, ◌&&◌}
 use mathlib.Core.List.{List}
 use lib.ListN.{length}
 use lib.Dec.{eqb, ltb, leb}
@@ -17,7 +17,6 @@ use Rattle.session.specs.declared.Session.{Session}
 use Rattle.table.specs.Places.{occupied_of, opens}
 use Rattle.table.proofs.Rows.{count-opens}
 use Rattle.table.proofs.Shares.{held_by}
-use Rattle.scan.specs.declared.Share.{Share}
 use Rattle.scan.specs.Passing.{own_count, share_in}
 use Rattle.scan.proofs.RowPairs.{pairs_of, unsound_at, pairs-theirs}
 

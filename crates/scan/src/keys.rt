@@ -1,12 +1,10 @@
 // The keys of the open records: no two labels alike, and no two discriminators of one party, with
 // marks, so that only a number whose mark is there is searched among those before it; the place
 // of a label; whether a label or a discriminator is there; how many labels are theirs.
-ghost use Rattle.std.specs.Prelude.{◌≡◌, true, false, ◌&&◌, eqb, take, drop, ◌/◌};
+ghost use Rattle.std.specs.Prelude.{◌≡◌, ℕ, ◌<◌, ◌^◌, ◌/◌, Bool, true, false, ◌&&◌, eqb, take, drop};
 ghost use Rattle.rules.specs.Parties.{party_of, own_number};
 ghost use Rattle.rules.specs.Lists.{any};
 ghost use Rattle.scan.specs.Distinct.{key_pair, group_key, once_in, key_in, alike, key_stands, reach_of, reached, distinct_in, place_in, rival_in, theirs_of};
-
-use octets::{either, least};
 
 pub fn key_pair(label: u32, discriminator: u32) -> u64
     ensures { result ≡ key_pair label discriminator }
@@ -20,37 +18,37 @@ pub fn group_key(label: u32, id: u32) -> u64
     own_key(label, id) + 1
 }
 
-// Of all that a pass notes the key pairs, 64 of them, and what stands behind these.
-pub fn pairs_in(noted: &[u64]) -> &[u64]
-    ensures { result.now ≡ take 64 noted.now }
+// The first so many of these; all where there are fewer.
+pub fn first_of(keys: &[u64], count: usize) -> &[u64]
+    ensures { result.now ≡ take count keys.now }
 {
-    if noted.len() <= 64 {
-        return noted;
-    }
-    &noted[..64]
+    &keys[..count.min(keys.len())]
 }
 
-pub fn groups_in(noted: &[u64]) -> &[u64]
-    ensures { result.now ≡ drop 64 noted.now }
+// What stands behind so many; none where there are fewer.
+pub fn behind(keys: &[u64], count: usize) -> &[u64]
+    ensures { result.now ≡ drop count keys.now }
 {
-    if noted.len() <= 64 {
-        return &noted[0..0];
-    }
-    &noted[64..]
+    &keys[count.min(keys.len())..]
 }
 
-// A number stands among the first ones.
-fn stands_before(keys: &[u64], end: usize, key: u64) -> bool
-    ensures { result ≡ any (eqb key) (take end keys.now) }
+// The pairs up to the last occupied place.
+fn reached(pairs: &[u64], occupied: u64) -> &[u64]
+    ensures { result.now ≡ reached occupied pairs.now }
 {
-    let n = least(end, keys.len());
+    first_of(pairs, reach(occupied))
+}
+
+// Some number passes a test. All of them are looked at: a search with no early end is done four at a time.
+fn some_passes<F: Fn(u64) -> bool>(keys: &[u64], test: F) -> bool
+    requires { F.IsAlwaysCallable test }
+    ensures { (p : ℕ → Bool) → ((x : ℕ) (r : Bool) → x < 2 ^ 64 → F.post test x r → r ≡ p x) → result ≡ any p keys.now }
+{
     let mut found = false;
-    let mut i: usize = 0;
-    while i < n {
-        if keys[i] == key {
+    for &key in keys {
+        if test(key) {
             found = true;
         }
-        i += 1;
     }
     found
 }
@@ -60,15 +58,11 @@ fn stands_before(keys: &[u64], end: usize, key: u64) -> bool
 pub fn each_once(keys: &[u64]) -> bool
     ensures { result ≡ once_in keys.now }
 {
-    let mut i: usize = 0;
-    while i < keys.len() {
+    for i in 0..keys.len() {
         let key = keys[i];
-        if key != 0 {
-            if stands_before(keys, i, key) {
-                return false;
-            }
+        if key != 0 && some_passes(first_of(keys, i), |k| key == k) {
+            return false;
         }
-        i += 1;
     }
     true
 }
@@ -99,6 +93,7 @@ fn own_in(pair: u64) -> u64
 }
 
 // How many places there are up to the last occupied one.
+#[tactic(auto, unfolding(crate::specs::Distinct::reach_of))]
 fn reach(occupied: u64) -> usize
     ensures { result ≡ reach_of occupied }
 {
@@ -109,43 +104,29 @@ fn reach(occupied: u64) -> usize
 fn is_alike(q: u64, p: u64) -> bool
     ensures { result ≡ alike q p }
 {
-    if label_in(p) == label_in(q) {
-        return true;
-    }
-    if discriminator_in(p) == discriminator_in(q) {
-        return own_in(p) == own_in(q);
-    }
-    false
+    label_in(p) == label_in(q)
+        || discriminator_in(p) == discriminator_in(q) && own_in(p) == own_in(q)
 }
 
-// A key of a pair is 0, or some pair before this place has one of its keys.
+// A key of a pair is 0, or some pair before this place has one of its keys. The search comes first: behind the two tests
+// it takes 12 instructions a pair where it takes 10.
+#[tactic(auto, unfolding(crate::specs::Distinct::key_stands))]
 fn key_stands(pairs: &[u64], end: usize, pair: u64) -> bool
     ensures { result ≡ key_stands (take end pairs.now) pair }
 {
-    let n = least(end, pairs.len());
-    let mut found = either(label_in(pair) == 0, own_in(pair) == 0);
-    let mut i: usize = 0;
-    while i < n {
-        if is_alike(pair, pairs[i]) {
-            found = true;
-        }
-        i += 1;
-    }
-    found
+    let found = some_passes(first_of(pairs, end), |p| is_alike(pair, p));
+    label_in(pair) == 0 || own_in(pair) == 0 || found
 }
 
-// A number stands among these. All of them are looked at: a search with no early end is done four at a
-// time.
+// A number stands among these. All of them are looked at, as in `some_passes`, but these are of 32 bits.
 fn among(numbers: &[u32], number: u32) -> bool
     ensures { result ≡ any (eqb number) numbers.now }
 {
     let mut found = false;
-    let mut i: usize = 0;
-    while i < numbers.len() {
-        if numbers[i] == number {
+    for &n in numbers {
+        if n == number {
             found = true;
         }
-        i += 1;
     }
     found
 }
@@ -157,23 +138,22 @@ fn among(numbers: &[u32], number: u32) -> bool
 pub fn distinct(pairs: &[u64], occupied: u64) -> bool
     ensures { result ≡ (distinct_in true (reach_of occupied) pairs.now && distinct_in false (reach_of occupied) pairs.now) }
 {
-    let n = least(reach(occupied), pairs.len());
+    let n = reach(occupied).min(pairs.len());
     let mut labels = [false; 1024];
     let mut others = [false; 1024];
     let mut own = [0u32; 64];
     let mut far = [0u32; 64];
     labels[0] = true;
     others[0] = true;
-    let mut i: usize = 0;
-    while i < n {
+    for i in 0..n {
         let pair = pairs[i];
         if pair != 0 {
             let l = label_in(pair);
             let d = discriminator_in(pair);
             let x = (l % 1024) as usize;
             let y = (d % 1024) as usize;
-            if either(labels[x], others[y]) {
-                if either(among(&own, l), among(&far, d)) {
+            if labels[x] || others[y] {
+                if among(&own, l) || among(&far, d) {
                     if key_stands(pairs, i, pair) {
                         return false;
                     }
@@ -184,7 +164,6 @@ pub fn distinct(pairs: &[u64], occupied: u64) -> bool
             own[i] = l;
             far[i] = d;
         }
-        i += 1;
     }
     true
 }
@@ -200,11 +179,9 @@ fn theirs_one(label: u32) -> u64
 pub fn theirs_in(pairs: &[u64]) -> u64
     ensures { result ≡ theirs_of pairs.now }
 {
-    let mut theirs: u64 = 0;
-    let mut i: usize = 0;
-    while i < pairs.len() {
-        theirs += theirs_one(label_in(pairs[i]));
-        i += 1;
+    let mut theirs = 0;
+    for &pair in pairs {
+        theirs += theirs_one(label_in(pair));
     }
     theirs
 }
@@ -216,66 +193,29 @@ pub fn place_in(pairs: &[u64], occupied: u64, label: u32) -> usize
     if label == 0 {
         return pairs.len();
     }
-    let n = least(reach(occupied), pairs.len());
-    let mut i: usize = 0;
-    while i < n {
-        if label_in(pairs[i]) == label {
+    let reached = reached(pairs, occupied);
+    for i in 0..reached.len() {
+        if label_in(reached[i]) == label {
             return i;
         }
-        i += 1;
     }
     pairs.len()
-}
-
-fn has_discriminator(pairs: &[u64], occupied: u64, discriminator: u32) -> bool
-    ensures { result ≡ any (λ p. eqb (p / 4294967296) discriminator) (reached occupied pairs.now) }
-{
-    let n = least(reach(occupied), pairs.len());
-    let mut found = false;
-    let mut i: usize = 0;
-    while i < n {
-        if discriminator_in(pairs[i]) == discriminator {
-            found = true;
-        }
-        i += 1;
-    }
-    found
-}
-
-fn has_key(pairs: &[u64], occupied: u64, key: u64) -> bool
-    ensures { result ≡ any (λ p. eqb (key_in false p) key) (reached occupied pairs.now) }
-{
-    let n = least(reach(occupied), pairs.len());
-    let mut found = false;
-    let mut i: usize = 0;
-    while i < n {
-        if own_in(pairs[i]) == key {
-            found = true;
-        }
-        i += 1;
-    }
-    found
 }
 
 // The discriminator is there in the label's party. Whose it is, is asked only where it is there.
 fn has_own(pairs: &[u64], occupied: u64, label: u32, discriminator: u32) -> bool
     ensures { result ≡ any (λ p. eqb (key_in false p) (own_number label discriminator)) (reached occupied pairs.now) }
 {
-    if has_discriminator(pairs, occupied, discriminator) {
-        return has_key(pairs, occupied, own_key(label, discriminator));
-    }
-    false
+    let reached = reached(pairs, occupied);
+    let key = own_key(label, discriminator);
+    some_passes(reached, |p| discriminator_in(p) == discriminator)
+        && some_passes(reached, |p| own_in(p) == key)
 }
 
 // The label was found, or the discriminator is there in its party. Only an opening asks for one.
+#[tactic(auto, unfolding(crate::specs::Distinct::rival_in))]
 pub fn rival_in(pairs: &[u64], occupied: u64, place: usize, label: u32, discriminator: u32) -> bool
     ensures { result ≡ rival_in pairs.now occupied place label discriminator }
 {
-    if place < pairs.len() {
-        return true;
-    }
-    if discriminator == 0 {
-        return false;
-    }
-    has_own(pairs, occupied, label, discriminator)
+    place < pairs.len() || discriminator != 0 && has_own(pairs, occupied, label, discriminator)
 }

@@ -1,29 +1,28 @@
 -- A message that arrives on a label is the table's step.
 -- Assumes nothing.
-use Prim.Native.Nat.{ℕ, zero, suc, ◌^◌, ◌<◌, ◌≤◌}
+use Prim.Native.Nat.{ℕ, zero, suc, ◌^◌, ◌<◌}
 use native.Mathlib.Omega.{arith}
 use mathlib.Core.Path.{◌≡◌, refl, sym, ap, ◌∙◌}
-use mathlib.Core.Bool.{Bool, true, false, cond}
-use mathlib.Core.Option.{Option, none, some}
+use mathlib.Core.Bool.{true, false, cond}
+use mathlib.Core.Option.{none, some}
 use mathlib.Core.List.{List, [], ◌∷◌}
 use lib.Dec.{eqb, ltb}
 use lib.ListN.{length, get_or, set}
-use borrow.Author.Tests.{eqb-true, le-ltb}
-use Rattle.octets.specs.Choice.{need, bar, or_else}
+use borrow.Author.Tests.{le-ltb}
 use Rattle.rules.specs.Calls.{Call, On, Receive, Said, number_only}
 use Rattle.rules.specs.Times.{late}
 use Rattle.rules.proofs.Bools.{split}
 use Rattle.session.specs.declared.Session.{Session}
-use Rattle.session.specs.Live.{is_fault, bfd_acted, fault_acted, with_live, with_fault, received_number, received_record}
+use Rattle.session.specs.Live.{is_fault, received_number, received_record}
 use Rattle.session.proofs.LiveMessages.{bfd-acts, fault-acts}
 use Rattle.table.specs.Places.{opens, place_of}
-use Rattle.table.specs.Table.{in_order, find, absent, asked, act_answer, receive_answer, done, act_done, altered, receiving}
+use Rattle.table.specs.Table.{in_order, find, absent, asked, act_answer, done, act_done, altered, receiving}
 use Rattle.step.specs.declared.Arrival.{Arrival}
 use Rattle.walks.specs.AtPlace.{at_place}
 use Rattle.step.specs.Saying.{Steps}
-use Rattle.step.specs.Stepping.{table_of, at, nowhere, Obeyed}
+use Rattle.step.specs.Stepping.{table_of, nowhere, Obeyed}
 use Rattle.step.specs.Arriving.{message_in, met_at, unmet_of, received_of, receive_at}
-use Rattle.step.proofs.TableStep.{of-64, place_found, steps-26, steps-sound}
+use Rattle.step.proofs.TableStep.{place_found, steps-26, steps-sound}
 
 -- an element put back where it was
 put_back : (row : List Session) (i : ℕ) (d : Session) → set row i (get_or row i d) ≡ row

@@ -1,36 +1,35 @@
 -- A call on a row of which it is known whether it is in order, and where it is the place of the label, a rival and a full share, is the table's step: what is said, and the table
 -- afterwards. For every row, clock, set and call whatever, however these were come by.
 -- Assumes nothing.
-use Prim.Native.Nat.{ℕ, zero, suc, ◌+◌, ◌-◌, ◌^◌, ◌/◌, ◌<◌, ◌≤◌}
+use Prim.Native.Nat.{ℕ, suc, ◌^◌, ◌/◌, ◌<◌}
 use native.Mathlib.Omega.{arith}
 use mathlib.Core.Path.{◌≡◌, refl, sym, ap, ◌∙◌}
-use mathlib.Core.Bool.{Bool, true, false, cond, not, ◌&&◌, ◌||◌}
+use mathlib.Core.Bool.{true, false, cond}
 use mathlib.Core.Option.{Option, none, some}
 use mathlib.Core.List.{List, [], ◌∷◌}
 use lib.Dec.{eqb, ltb, leb-suc-suc}
 use lib.ListN.{length, get_or, set}
 use lib.Seq.{set_out}
-use borrow.Author.Tests.{eqb-true, eqb-false, eq-eqb, ltb-true, lt-ltb, le-ltb}
-use Rattle.octets.specs.Choice.{need, bar, or_else}
+use borrow.Author.Tests.{eqb-true, eqb-false, ltb-true, lt-ltb}
+use Rattle.octets.specs.Choice.{need, bar}
 use Rattle.octets.specs.Writing.{writing}
 use Rattle.octets.proofs.Writing.{refused, short}
 use Rattle.octets.proofs.Chain.{need-passed, bar-passed}
 use Rattle.bfd.specs.Octets.{packet_octets}
-use Rattle.rules.specs.declared.Settings.{Settings}
 use Rattle.rules.specs.Times.{late}
 use Rattle.rules.specs.Settings.{settings_fit}
 use Rattle.rules.specs.Parties.{party_of, own_most}
 use Rattle.rules.specs.Lists.{any}
-use Rattle.rules.specs.Calls.{Act, Close, Lock, Unlock, Receive, ReportOn, WriteCc, WriteCv, Call, Tick, Open, On, Said, is_accepted, number_only, no_report, reporting, writes}
-use Rattle.rules.proofs.Bools.{split, no_way, forced}
+use Rattle.rules.specs.Calls.{Act, Close, Lock, Unlock, Receive, ReportOn, WriteCc, WriteCv, Call, Tick, Open, On, number_only, no_report, writes}
+use Rattle.rules.proofs.Bools.{split, no_way}
 use Rattle.rules.proofs.TwoParties.{party-most}
 use Rattle.session.specs.declared.Session.{Session}
-use Rattle.session.specs.Queries.{report_at, cc_octets_at, cv_octets_at, cv_size_of, cv_whole_at}
+use Rattle.session.specs.Queries.{cc_octets_at, cv_octets_at, cv_size_of}
 use Rattle.session.proofs.Written.{cv-size, cv-front}
 use Rattle.session.specs.Steps.{new_session, locked_at, unlocked_at, reply_settled}
 use Rattle.table.specs.declared.Head.{Head}
-use Rattle.table.specs.Places.{first_on, occupied_at, with_place, without_place, lowest_free, opens, has_label, place_of}
-use Rattle.table.specs.Table.{Table, open_by, in_order, find, is_found, absent, rivals, open_answer, asked, answer, act_answer, done, act_done, altered, added, closed, next}
+use Rattle.table.specs.Places.{first_on, occupied_at, lowest_free, opens, has_label, place_of}
+use Rattle.table.specs.Table.{Table, open_by, in_order, find, absent, rivals, open_answer, asked, answer, act_answer, done, act_done, altered, added, closed, next}
 use Rattle.table.proofs.OccupiedSet.{at_zero, at_suc, with-free, without-taken, lowest-is-free}
 use Rattle.table.proofs.Rows.{free-exists}
 use Rattle.table.proofs.Shares.{place-left}

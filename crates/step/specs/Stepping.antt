@@ -1,7 +1,7 @@
 -- The decision and the step, from what is known of the row (in order or not, the place of the label, a rival, a full share), the head, the call and the one record that it concerns. This is
 -- what the code is proved to do; `proofs/TableStep.antt` says that it is the table's step.
 -- Assumes nothing.
-use Rattle.std.specs.Prelude.{ℕ, Bool, cond, List, eqb, ltb, length, get_or, set, replicate}
+use Rattle.std.specs.Prelude.{ℕ, Bool, cond, List, eqb, ltb, get_or, set, replicate}
 use Rattle.octets.specs.Choice.{need, bar}
 use Rattle.cv.specs.declared.CvOctets.{CvOctets}
 use Rattle.rules.specs.Calls.{no_report}

@@ -9,7 +9,7 @@ pub fn aimed_at(label: u32) -> Target
     ensures { result ≡ aimed_at label }
 {
     Target {
-        label: label,
+        label,
         discriminator: 0,
     }
 }
@@ -19,11 +19,11 @@ pub fn target(q: Request) -> Target
 {
     match q {
         Request::Tick(_) => aimed_at(0),
-        Request::Close(l, _) => aimed_at(l),
-        Request::Lock(l, _) => aimed_at(l),
-        Request::Unlock(l, _) => aimed_at(l),
-        Request::ReportOn(l) => aimed_at(l),
-        Request::WriteCc(l, _) => aimed_at(l),
-        Request::WriteCv(l, _) => aimed_at(l),
+        Request::Close(l, _)
+        | Request::Lock(l, _)
+        | Request::Unlock(l, _)
+        | Request::ReportOn(l)
+        | Request::WriteCc(l, _)
+        | Request::WriteCv(l, _) => aimed_at(l),
     }
 }

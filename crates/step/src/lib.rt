@@ -12,7 +12,7 @@ mod opened;
 pub use arrived::{bfd_met, bfd_said, brings_fault, fault_met, fault_said, met_at, unmet};
 pub use asked::{aimed_at, target};
 use cv::CvOctets;
-pub use effect::{acted_by, step};
+pub use effect::{acted_by, head_at, no_report, step};
 pub use opened::{opened_by, opening_step, opening_target};
 use rules::{Report, Settings};
 use table::Head;
@@ -56,7 +56,8 @@ pub struct Told {
     pub cv: CvOctets,
 }
 
-// What comes of a call: clock and set afterwards, what it tells, the answer.
+// What comes of a call: clock and set afterwards, what it tells, the answer. The answer is a number, 0 where nothing is
+// refused: the C interface returns it, and the theorem that a call is the table's step (`Steps`) speaks of it.
 #[derive(Clone, Copy)]
 pub struct Outcome {
     pub head: Head,

@@ -1,11 +1,12 @@
 // An open: its refusals one after the other, and the new session in the lowest free place.
 ghost use Rattle.std.specs.Prelude.{◌≡◌};
+ghost use Rattle.octets.specs.Refusals.{refusal_in};
 ghost use Rattle.session.specs.Steps.{new_session};
 ghost use Rattle.step.specs.Stepping.{opening_answer, opened_head, opening_of, opening_target};
 
-use crate::effect::{head_if, nothing_told, place_if};
+use crate::effect::{NOWHERE, nothing_told};
 use crate::{Opening, Outcome, Stepped};
-use octets::{need, refuse_if};
+use octets::Refusal;
 use scan::{Summary, Target};
 use session::Session;
 use table::Head;
@@ -20,14 +21,26 @@ pub fn opening_target(g: Opening) -> Target
     }
 }
 
-fn opening_answer(s: Summary, head: Head, g: Opening) -> u32
-    ensures { result ≡ opening_answer s head g }
+#[tactic(auto, unfolding(crate::specs::Stepping::opening_answer))]
+fn opening_refusal(s: Summary, head: Head, g: Opening) -> Result<(), Refusal>
+    ensures { refusal_in result ≡ opening_answer s head g }
 {
-    let settings = g.settings;
-    let fits = rules::settings_fit(settings);
-    let room = refuse_if(s.rival, 11, refuse_if(s.full, 12, 0));
-    let late = rules::is_late(head.clock, g.reading);
-    need(s.sound, 26, refuse_if(late, 1, need(fits, 10, room)))
+    if !s.sound {
+        return Err(Refusal::Unsound);
+    }
+    if rules::is_late(head.clock, g.reading) {
+        return Err(Refusal::Late);
+    }
+    if !rules::settings_fit(g.settings) {
+        return Err(Refusal::OutOfRange);
+    }
+    if s.rival {
+        return Err(Refusal::Taken);
+    }
+    if s.full {
+        return Err(Refusal::Full);
+    }
+    Ok(())
 }
 
 fn opened_head(head: Head, reading: u64) -> Head
@@ -41,28 +54,35 @@ fn opened_head(head: Head, reading: u64) -> Head
 
 // The record that lies in the free place is not looked at; it is handed in because calls of one
 // shape share one proof.
+#[tactic(auto, unfolding(crate::specs::Stepping::opening_of))]
 pub fn opening_step(s: Summary, head: Head, g: Opening, _r: Session) -> Stepped
     ensures { result ≡ opening_of s head g }
 {
-    let n = opening_answer(s, head, g);
-    let accepted = n == 0;
-    let next = head_if(accepted, opened_head(head, g.reading), head);
-    let place = place_if(accepted, table::lowest_free(head.occupied) as usize);
-    let outcome = Outcome {
-        head: next,
-        told: nothing_told(),
-        answer: n,
-    };
-    Stepped {
-        outcome: outcome,
-        place: place,
+    let told = nothing_told();
+    match opening_refusal(s, head, g) {
+        Ok(()) => Stepped {
+            outcome: Outcome {
+                head: opened_head(head, g.reading),
+                told,
+                answer: 0,
+            },
+            place: table::lowest_free(head.occupied) as usize,
+        },
+        Err(refusal) => Stepped {
+            outcome: Outcome {
+                head,
+                told,
+                answer: u32::from(refusal),
+            },
+            place: NOWHERE,
+        },
     }
 }
 
 // The record of an accepted open.
+#[tactic(auto, unfolding(session::specs::Steps::new_session))]
 pub fn opened_by(g: Opening, _r: Session) -> Session
     ensures { result ≡ new_session g.settings g.reading }
 {
-    let settings = g.settings;
-    session::opened_at(settings, g.reading)
+    session::opened_at(g.settings, g.reading)
 }

@@ -5,8 +5,8 @@ use Rattle.std.specs.Prelude.{ℕ, Bool, true, false, List, [], ◌∷◌, ◌++
 use Rattle.bfd.specs.Octets.{cc_octets}
 use Rattle.cv.specs.declared.MepId.{MepId}
 use Rattle.cv.specs.MepId.{no_agi}
-use Rattle.coordination.specs.declared.PwStatus.TheVariants.{Present as AStatus}
-use Rattle.coordination.specs.declared.NodeSwitching.TheVariants.{Present as ASwitching}
+use Rattle.coordination.specs.Carried.{AStatus}
+use Rattle.coordination.specs.Carried.{ASwitching}
 use Rattle.coordination.specs.Octets.{dhc_octets}
 use Rattle.rules.specs.Calls.{Close, Lock, Receive, Tick, Open, On}
 use Rattle.grouping.specs.Commands.{Command, Ordinary, SetGroup, SetAc, ReturnGroup, Coordinate}

@@ -3,11 +3,11 @@ use Rattle.std.proofs.Common.{◌≡◌, ◌-◌, ◌≤◌, length, drop}
 use Rattle.scan.specs.Passing.{pass_over}
 use Rattle.row.proofs.pass_over.Given as goal
 
-abbrev pub invariant-loop-r : goal.invariant-loop-r
-invariant-loop-r l = record {
+abbrev pub invariant-loop-pairs : goal.invariant-loop-pairs
+invariant-loop-pairs l = record {
   inside : l.i ≤ length l.row;
   so_far : pass_over l.i (record { progress = l.s; pairs = l.pairs }) (drop l.i l.row) ≡ pass_over 0 (record { progress = l.fn.from; pairs = l.fn.pairs }) l.row;
 }
 
-abbrev pub decreases-loop-r : goal.decreases-loop-r
-decreases-loop-r l = length l.row - l.i
+abbrev pub decreases-loop-pairs : goal.decreases-loop-pairs
+decreases-loop-pairs l = length l.row - l.i

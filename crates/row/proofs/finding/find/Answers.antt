@@ -1,14 +1,15 @@
 -- The search of `Searched.antt`, at the label and the discriminator.
-use mathlib.Core.Path.{◌≡◌, refl, sym, ◌∙◌}
+use mathlib.Core.Path.{◌≡◌, refl, sym, ap, ◌∙◌}
 use mathlib.Core.Bool.{Bool, true, false, ◌&&◌}
 use Prim.Native.Nat.{ℕ, ◌+◌, ◌/◌, ◌≤◌, ◌<◌}
 use mathlib.Core.List.{List}
 use native.Mathlib.Omega.{arith}
 use lib.ListN.{length, get_or, drop}
+use borrow.Author.Tests.{le-ltb}
 use Rattle.session.specs.declared.Session.{Session}
 use Rattle.table.specs.Places.{first_on, hits, first_hit}
 use Rattle.table.specs.Table.{absent}
-use Rattle.row.proofs.Searched.{within, more_of}
+use Rattle.row.proofs.Searched.{more_of, no_more}
 use Rattle.row.proofs.Searched as search_of
 use Rattle.row.proofs.finding.find.Goals as goal
 
@@ -29,20 +30,22 @@ module _ (past : Session) (l d set i : ℕ) (ys : List Session) where
   at-end = search_of.at-end past (hit_of l d) (first_hit l d) (λ s. refl) (λ s r rs. refl) (λ r. refl) ys set i
 
 pub returns-then-is_hit : goal.returns-then-is_hit
-returns-then-is_hit c =
-    sym (hit-here _ c.args.label c.args.discriminator c.loop-r.rest c.loop-r.i c.args.row.now
-    (within c.loop-r.rest c.loop-r.i _ (sym c.more_places.ensures ∙ c.loop-r-test.true)) (sym c.is_hit.ensures ∙ c.if-is_hit.true))
-    ∙ c.loop-r.invariant.so_far
+returns-then-is_hit c = let a = c.args in
+    let l = c.loop-i in
+    sym (hit-here _ a.label a.discriminator l.rest l.i a.row.now c.loop-i-test.true (sym c.is_hit.ensures ∙ c.if-is_hit.true)) ∙ l.invariant
 
-pub loop-r-preserved : goal.loop-r-preserved
-loop-r-preserved c =
-    let so : c.loop-r.i < length c.args.row.now = within c.loop-r.rest c.loop-r.i _ (sym c.more_places.ensures ∙ c.loop-r-test.true) in
-    record {
-      inside = omega (arith, so);
-      so_far = sym (hit_later _ c.args.label c.args.discriminator c.loop-r.rest c.loop-r.i c.args.row.now so (sym c.is_hit.ensures ∙ c.if-is_hit.false)) ∙ c.loop-r.invariant.so_far;
-    }
+pub loop-i-preserved : goal.loop-i-preserved
+loop-i-preserved c = let a = c.args in
+    let l = c.loop-i in
+    sym (hit_later _ a.label a.discriminator l.rest l.i a.row.now c.loop-i-test.true (sym c.is_hit.ensures ∙ c.if-is_hit.false)) ∙ l.invariant
 
-pub returns : goal.returns
-returns c =
-    sym (at-end absent c.args.label c.args.discriminator c.loop-r.rest c.loop-r.i c.args.row.now c.loop-r.invariant.inside (sym c.more_places.ensures ∙ c.loop-r-test.false))
-    ∙ c.loop-r.invariant.so_far
+pub returns-then-rest-eq0 : goal.returns-then-rest-eq0
+returns-then-rest-eq0 c = let a = c.args in
+    let l = c.loop-i in
+    sym (at-end absent a.label a.discriminator l.rest l.i a.row.now (omega arith) (ap (λ (s : ℕ). more_of s l.i (length a.row.now)) c.if-rest-eq0.true)) ∙ l.invariant
+
+pub returns-after-loop-i : goal.returns-after-loop-i
+returns-after-loop-i c = let a = c.args in
+    let l = c.loop-i in
+    let past = no_more l.rest l.i _ (le-ltb l.i (length a.row.now) c.loop-i-test.false) in
+    sym (at-end absent a.label a.discriminator l.rest l.i a.row.now (omega arith) past) ∙ l.invariant

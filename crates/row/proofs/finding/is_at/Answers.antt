@@ -12,6 +12,3 @@ none false b c e = refl
 
 pub returns-then-at-ge64 : goal.returns-then-at-ge64
 returns-then-at-ge64 c = none (ltb c.args.at c.args.records) _ _ (free-past 64 c.args.occupied c.args.at (omega arith) c.if-at-ge64.true)
-
-pub returns : goal.returns
-returns c = rw (c.both.ensures, c.both-open.ensures, c.is_occupied.ensures)

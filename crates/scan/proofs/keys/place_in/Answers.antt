@@ -1,45 +1,40 @@
-use Prim.Native.Nat.{◌≤◌, ◌<◌, ◌+◌, ◌-◌}
-use mathlib.Core.Path.{◌≡◌, sym, ap, ◌∙◌}
-use mathlib.Core.Bool.{true}
+use Prim.Native.Nat.{ℕ, ◌<◌, ◌≤◌}
+use mathlib.Core.Path.{◌≡◌, sym, subst, ◌∙◌}
+use mathlib.Core.List.{List}
 use native.Mathlib.Omega.{arith}
-use lib.ListN.{length, length-take, drop}
-use lib.Seq.{get_or-take}
-use borrow.Author.Rules.{rules}
-use Rattle.scan.specs.Distinct.{key_in, reach_of, reached, first_with}
+use lib.ListN.{length}
+use Rattle.scan.specs.Distinct.{first_with}
 use Rattle.scan.proofs.KeyMarks.{with_none, with-here, with-later, place_found, place_none, place-zero}
 use Rattle.scan.proofs.keys.place_in.Goals as goal
 
 pub returns-then-label-eq0 : goal.returns-then-label-eq0
-returns-then-label-eq0 c = let a = c.args in sym (place-zero a.label a.occupied a.pairs.now c.if-label-eq0.true)
+returns-then-label-eq0 c = sym (place-zero c.args.label c.args.occupied c.args.pairs.now c.if-label-eq0.true)
 
 pub loop-i-init : goal.loop-i-init
-loop-i-init c = let a = c.args in
-    (omega arith, (rw (length-take, ← c.reach.ensures) c.least-n.ensures, with_none a.label (reached a.occupied a.pairs.now)))
-
-pub bounds-pairs-i : goal.bounds-pairs-i
-bounds-pairs-i c = let a = c.args in omega (arith, length-take (reach_of a.occupied) a.pairs.now)
+loop-i-init c = with_none c.args.label c.reached-reached.result.now
 
 pub returns-then-label_in-label : goal.returns-then-label_in-label
 returns-then-label_in-label c = let a = c.args in
     let l = c.loop-i in
-    let none = c.if-label-eq0.false in
-    let h : l.i < length (reached a.occupied a.pairs.now) = omega arith in
-    let k : l.i < reach_of a.occupied = omega (arith, length-take (reach_of a.occupied) a.pairs.now) in
-    let same = ap (key_in true) (get_or-take (reach_of a.occupied) a.pairs.now l.i 0 k) in
-    let e = with-here a.label (reached a.occupied a.pairs.now) l.i h (same ∙ sym c.label_in.ensures ∙ c.if-label_in-label.true) in
-    sym (place_found a.label a.occupied a.pairs.now l.i none (omega (arith, l.invariant.1.1, e)) h)
+    let ps = c.reached-reached.result.now in
+    let e = with-here a.label ps l.i c.loop-i-test.true (sym c.label_in.ensures ∙ c.if-label_in-label.true) in
+    let at : first_with a.label ps ≡ l.i = omega (arith, l.invariant, e) in
+    let s = c.reached-reached.ensures in
+    sym (place_found a.label a.occupied a.pairs.now l.i c.if-label-eq0.false
+    (subst (λ (qs : List ℕ). first_with a.label qs ≡ l.i) s at)
+    (subst (λ (qs : List ℕ). l.i < length qs) s c.loop-i-test.true))
 
 pub loop-i-preserved : goal.loop-i-preserved
 loop-i-preserved c = let a = c.args in
     let l = c.loop-i in
-    let h : l.i < length (reached a.occupied a.pairs.now) = omega arith in
-    let k : l.i < reach_of a.occupied = omega (arith, length-take (reach_of a.occupied) a.pairs.now) in
-    let same = ap (key_in true) (get_or-take (reach_of a.occupied) a.pairs.now l.i 0 k) in
-    let e = with-later a.label (reached a.occupied a.pairs.now) l.i h (λ z. c.if-label_in-label.false (c.label_in.ensures ∙ sym same ∙ z)) in
-    (omega arith, (l.invariant.1.0, omega (arith, l.invariant.1.1, e)))
+    let ps = c.reached-reached.result.now in
+    let e = with-later a.label ps l.i c.loop-i-test.true (λ z. c.if-label_in-label.false (c.label_in.ensures ∙ z)) in
+    omega (arith, l.invariant, e)
 
 pub returns : goal.returns
 returns c = let a = c.args in
     let l = c.loop-i in
-    let none = c.if-label-eq0.false in
-    sym (place_none a.label a.occupied a.pairs.now none (omega (arith, l.invariant.1.1)))
+    let ps = c.reached-reached.result.now in
+    let past : length ps ≤ first_with a.label ps = omega (arith, l.invariant) in
+    sym (place_none a.label a.occupied a.pairs.now c.if-label-eq0.false
+    (subst (λ (qs : List ℕ). length qs ≤ first_with a.label qs) c.reached-reached.ensures past))

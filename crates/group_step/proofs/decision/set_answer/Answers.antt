@@ -1,5 +1,0 @@
-use borrow.Author.Rules.{rules}
-use Rattle.group_step.proofs.decision.set_answer.Goals as goal
-
-pub returns : goal.returns
-returns c = rw (c.refuse_if.ensures, c.is_late.ensures, c.set_refusal-refusal.ensures)

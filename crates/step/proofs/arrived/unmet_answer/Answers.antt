@@ -1,5 +1,0 @@
-use borrow.Author.Rules.{rules}
-use Rattle.step.proofs.arrived.unmet_answer.Goals as goal
-
-pub returns : goal.returns
-returns c = rw (c.need.ensures, c.refuse_if.ensures, c.is_late.ensures)
