@@ -1,38 +1,36 @@
 -- Asked from the index that is built of a log whose answers are our run's, the answer is the report of a table made empty after the calls up to the first accepted one that
 -- moves the clock past the reading, and a tick to the reading.
 -- Assumes nothing.
-use Prim.Native.Nat.{ℕ, zero, suc, ◌+◌, ◌*◌, ◌-◌, ◌/◌, ◌≤◌, ◌<◌}
+use Prim.Native.Nat.{ℕ, zero, suc, ◌+◌, ◌*◌, ◌/◌, ◌≤◌, ◌<◌}
 use native.Mathlib.Omega.{arith}
 use mathlib.Core.Path.{◌≡◌, refl, sym, ap, ◌∙◌}
-use mathlib.Core.Bool.{Bool, true, false, cond, not, ◌&&◌, ◌||◌}
-use mathlib.Core.Option.{Option, none, some}
+use mathlib.Core.Bool.{Bool, true, false, not, ◌&&◌}
+use mathlib.Core.Option.{none}
 use mathlib.Core.List.{List, [], ◌∷◌}
-use lib.Dec.{eqb, ltb, leb}
+use lib.Dec.{eqb, ltb}
 use lib.ListN.{length, get_or, drop}
-use borrow.Author.Tests.{eqb-true, eqb-false, eq-eqb, ne_eqb, ltb-true, ltb-false, lt-ltb, le-ltb, not-true}
-use Rattle.octets.proofs.Chain.{and_both, bar-passed}
+use borrow.Author.Tests.{eqb-true, eqb-false, eq-eqb, ltb-true, le-ltb}
+use Rattle.octets.proofs.Chain.{bar-passed}
 use Rattle.rules.specs.Times.{late, latest}
 use Rattle.rules.specs.Lists.{any, only, once}
-use Rattle.rules.specs.Calls.{Act, Close, Lock, Unlock, Receive, ReportOn, WriteCc, WriteCv, Call, Tick, Open, On, Said, is_accepted}
+use Rattle.rules.specs.Calls.{is_accepted}
 use Rattle.rules.proofs.Bools.{split, no_way}
 use Rattle.rules.proofs.Ages.{not_late}
 use Rattle.session.specs.declared.Session.{Session}
 use Rattle.session.specs.Steps.{new_session}
 use Rattle.table.specs.Places.{opens}
 use Rattle.table.specs.Table.{Table, open_of, in_order, find, receive_answer, act_answer, asked, answer, next, emptied, absent}
-use Rattle.table.proofs.Accepted.{OpenPassed, open-passed, found_passed}
+use Rattle.table.proofs.Accepted.{open-passed, found_passed}
 use Rattle.table.proofs.Order.{order-kept}
 use Rattle.table.proofs.Refusals.{refused-table}
 use Rattle.capture.specs.declared.Record.{Record}
 use Rattle.capture.specs.Records.{record_in, act_of, call_of, settings_in}
 use Rattle.own.specs.Records.{held_in}
 use Rattle.halving.specs.Search.{found}
-use Rattle.halving.proofs.Halves.{Rising, Last, found-last}
+use Rattle.halving.proofs.Halves.{Rising, found-last}
 use Rattle.call_log.specs.declared.Point.{Point}
-use Rattle.call_log.specs.declared.Ended.{Ended}
-use Rattle.call_log.specs.declared.Answer.{Answer}
-use Rattle.call_log.specs.Records.{Logged, logged_in, logged_by, answer_in, body_in, is_whole, is_cut, behind}
-use Rattle.call_log.specs.Reading.{later_of, clock_after, followed, more_of, read_to, at_start, answer_from}
+use Rattle.call_log.specs.Records.{logged_in, logged_by, answer_in, body_in, is_whole, is_cut, behind}
+use Rattle.call_log.specs.Reading.{followed, more_of, read_to, at_start, Answer, answer_from}
 use Rattle.call_log.specs.Runs.{Ours, behind_all, gone_through}
 use Rattle.call_log.specs.Entries.{rest_after, point_after, clock_by, Rises, entry_point, entry_rest}
 use Rattle.call_log.proofs.Turns.{more-whole, more-not-later}

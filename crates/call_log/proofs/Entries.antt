@@ -4,17 +4,17 @@ use Prim.Native.Nat.{ℕ, zero, suc, ◌+◌, ◌*◌, ◌-◌, ◌≤◌, ◌<�
 use native.Mathlib.Omega.{arith}
 use mathlib.Core.Path.{◌≡◌, refl, sym, ap, ◌∙◌}
 use mathlib.Core.Bool.{Bool, true, false, cond, not, ◌&&◌}
-use mathlib.Core.List.{List, [], ◌∷◌}
+use mathlib.Core.List.{List}
 use lib.Dec.{eqb, ltb, leb}
-use lib.ListN.{length, get_or, drop}
-use borrow.Author.Tests.{ltb-true, ltb-false, lt-ltb, le-ltb, lt-leb, leb-true, leb-false, not-true}
+use lib.ListN.{length, drop}
+use borrow.Author.Tests.{ltb-false, lt-ltb, le-ltb, lt-leb, leb-true, leb-false, not-true}
 use Rattle.octets.proofs.Chain.{and_both}
-use Rattle.rules.proofs.Bools.{split, no_way, both_true}
+use Rattle.rules.proofs.Bools.{split, no_way}
 use Rattle.capture.specs.Records.{record_in}
 use Rattle.call_log.specs.declared.Point.{Point}
 use Rattle.call_log.specs.declared.Ended.{Ended}
-use Rattle.call_log.specs.Records.{answer_in, is_whole, is_cut, behind}
-use Rattle.call_log.specs.Reading.{later_of, clock_after, followed, more_of, ended_at, read_to, answer_from, at_start}
+use Rattle.call_log.specs.Records.{answer_in, is_whole, behind}
+use Rattle.call_log.specs.Reading.{later_of, followed, more_of, read_to, answer_from, at_start}
 use Rattle.call_log.specs.Entries.{rest_after, point_after, clock_by, Rises, entry_point, entry_rest}
 
 -- the clock that reading keeps

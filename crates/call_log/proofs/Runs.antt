@@ -1,20 +1,17 @@
 -- Of a log whose answers are our run's: the record of the label and the clock that reading keeps are the table's, and the answer from them is the report after a tick to
 -- the reading that is asked for.
 -- Assumes nothing.
-use Prim.Native.Nat.{ℕ, zero, suc, ◌≤◌, ◌<◌}
+use Prim.Native.Nat.{ℕ, zero, suc, ◌≤◌}
 use native.Mathlib.Omega.{arith}
 use mathlib.Core.Path.{◌≡◌, refl, sym, ap, ◌∙◌}
-use mathlib.Core.Bool.{Bool, true, false, cond, not, ◌&&◌}
-use mathlib.Core.Option.{Option, none, some}
+use mathlib.Core.Bool.{true, false, cond}
 use mathlib.Core.List.{List, [], ◌∷◌}
 use lib.Dec.{eqb, ltb}
-use lib.ListN.{length}
-use borrow.Author.Tests.{eqb-true, eqb-false, ltb-true, ltb-false, lt-ltb, le-ltb}
+use borrow.Author.Tests.{eqb-true, eqb-false, ltb-false, le-ltb}
 use Rattle.rules.specs.Times.{late}
-use Rattle.rules.specs.Calls.{Act, Close, Lock, Unlock, Receive, ReportOn, WriteCc, WriteCv, Call, Tick, Open, On, Said, is_accepted}
+use Rattle.rules.specs.Calls.{ReportOn, Tick, On, Said, is_accepted}
 use Rattle.rules.proofs.Bools.{split}
 use Rattle.rules.proofs.Ages.{not_late}
-use Rattle.session.specs.declared.Session.{Session}
 use Rattle.table.specs.Table.{Table, open_of, in_order, find, report_answer, act_answer, asked, answer, altered, added, closed, act_done, done, next}
 use Rattle.table.proofs.Order.{order-kept}
 use Rattle.table.proofs.Refusals.{refused-table}
@@ -24,8 +21,8 @@ use Rattle.own.specs.Records.{held_in, record_after}
 use Rattle.own.proofs.Followed.{record-follows}
 use Rattle.call_log.specs.declared.Point.{Point}
 use Rattle.call_log.specs.declared.Ended.{Ended}
-use Rattle.call_log.specs.Records.{Logged, logged_in, answer_in, body_in, is_whole, behind}
-use Rattle.call_log.specs.Reading.{clock_after, followed, more_of, ended_at, read_to, ticked_to, answer_from}
+use Rattle.call_log.specs.Records.{Logged, logged_in, answer_in, body_in, behind}
+use Rattle.call_log.specs.Reading.{clock_after, followed, more_of, read_to, ticked_to, answer_from}
 use Rattle.call_log.specs.Runs.{Ours, behind_all, gone_through}
 
 -- the clock behind an act, by its kind

@@ -1,10 +1,10 @@
 -- Reading a log, record by record.
 -- Assumes nothing.
-use Prim.Native.Nat.{ℕ, zero, suc, ◌+◌, ◌-◌, ◌≤◌, ◌<◌}
+use Prim.Native.Nat.{ℕ, zero, suc, ◌-◌, ◌≤◌, ◌<◌}
 use native.Mathlib.Omega.{arith}
 use native.Mathlib.Numerals.{sub-one}
-use mathlib.Core.Path.{◌≡◌, refl, sym, ap, ◌∙◌}
-use mathlib.Core.Bool.{Bool, true, false, cond, not, ◌&&◌}
+use mathlib.Core.Path.{◌≡◌, refl, sym, ◌∙◌}
+use mathlib.Core.Bool.{true, false, not, ◌&&◌}
 use mathlib.Core.List.{List}
 use lib.ListN.{length, take, drop, length-drop}
 use lib.Seq.{take_all}
@@ -93,3 +93,8 @@ pub again : (l u n : ℕ) (s : List ℕ) (p q : Point) (size : ℕ) (w : Ended) 
     → read_to (n - 1) l u (take (length s - size) (drop size s)) q ≡ w
 unfolding behind
 again l u n s p q size w m e d i = rw (part s size, e, d) (sym (turns l u n s p m) ∙ i)
+
+-- what a turn of the reading leaves, and how far it goes
+pub ruleset reads = (more_left, more-size, stops)
+
+pub ruleset spares = (spare-most)

@@ -1,6 +1,6 @@
 -- What stands between two records of a log, and the entries of an index: before record 1 and after every 256th record.
 -- Assumes nothing.
-use Rattle.std.specs.Prelude.{ℕ, zero, suc, ◌*◌, ◌-◌, ◌≤◌, ◌≡◌, Bool, true, cond, not, ◌&&◌, List, length, drop, eqb}
+use Rattle.std.specs.Prelude.{ℕ, zero, suc, ◌*◌, ◌-◌, ◌≤◌, ◌≡◌, true, cond, List, length, drop, eqb}
 use Rattle.capture.specs.Records.{record_in}
 use Rattle.call_log.specs.declared.Point.{Point}
 use Rattle.call_log.specs.Records.{answer_in, is_whole, behind}

@@ -1,7 +1,9 @@
 -- A log read for one label from a place on: the label's record and the clock, record by record. This is what the code does.
 -- Assumes nothing.
-use Rattle.std.specs.Prelude.{ℕ, zero, suc, ◌+◌, ◌-◌, ◌<◌, Bool, true, false, not, cond, ◌&&◌, ◌||◌, List, length, drop, eqb, ltb, leb}
-use Rattle.octets.specs.Choice.{need, bar}
+use Rattle.std.specs.Prelude.{ℕ, zero, suc, ◌-◌, Bool, not, cond, ◌&&◌, ◌||◌, List, Result, Ok, Err, length, drop, eqb, ltb, leb}
+use Rattle.octets.specs.declared.refusals.Refusal.{Refusal}
+use Rattle.octets.specs.Refusals.{number_of}
+use Rattle.rules.specs.declared.Report.{Report}
 use Rattle.rules.specs.Calls.{no_report}
 use Rattle.session.specs.declared.Session.{Session}
 use Rattle.session.specs.Queries.{report_at}
@@ -12,8 +14,7 @@ use Rattle.capture.specs.Records.{record_in}
 use Rattle.own.specs.Records.{record_after}
 use Rattle.call_log.specs.declared.Point.{Point}
 use Rattle.call_log.specs.declared.Ended.{Ended}
-use Rattle.call_log.specs.declared.Counted.{Counted}
-use Rattle.call_log.specs.declared.Answer.{Answer}
+use Rattle.call_log.specs.declared.Told.{Told}
 use Rattle.call_log.specs.Records.{header_fits, answer_in, body_in, is_whole, is_cut, behind}
 
 -- a call that moves the clock, kinds 0 to 5, accepted and later than a reading
@@ -55,6 +56,16 @@ never = 18446744073709551615
 abbrev pub read_all : List ℕ → Ended
 read_all log = read_to 65536 0 never (drop 8 log) at_start
 
+-- 0 and the number of records, or 19
+pub record Counted : Type 0 where
+  pub answer : ℕ
+  pub count : ℕ
+
+-- as the code says it
+abbrev pub counted_in : Result ℕ Refusal → Counted
+counted_in (Ok n) = record { answer = 0; count = n }
+counted_in (Err r) = record { answer = number_of r; count = 0 }
+
 -- everything was read, and that were fewer than 65,536 records
 abbrev pub counted_by : Ended → Counted
 counted_by e = cond (eqb e.left 0 && ltb 0 e.spare) (record { answer = 0; count = 65536 - e.spare }) (record { answer = 19; count = 0 })
@@ -72,8 +83,19 @@ entry_fits s clock place l size =
 abbrev pub ticked_to : ℕ → ℕ → ℕ
 ticked_to clock u = cond (ltb clock u) u clock
 
+-- what is told: the number, and beside 0 the report and how many entries were looked at
+pub record Answer : Type 0 where
+  pub answer : ℕ
+  pub looked : ℕ
+  pub report : Report
+
 abbrev pub refused_with : ℕ → Answer
 refused_with n = record { answer = n; looked = 0; report = no_report }
+
+-- as the code says it
+abbrev pub told_in : Result Told Refusal → Answer
+told_in (Ok t) = record { answer = 0; looked = t.looked; report = t.report }
+told_in (Err r) = refused_with (number_of r)
 
 -- 19 for a record read that is cut, then 2, or the report at the reading with the number of entries looked at
 unfoldable pub answer_from : Ended → ℕ → ℕ → Answer

@@ -5,6 +5,7 @@
 mod reading;
 mod records;
 
+use octets::Refusal;
 pub use reading::{answer_from, at_start, count_of, entry_fits, follow, read_to};
 pub use records::{header_fits, is_cut, is_whole, size_in};
 use rules::Report;
@@ -19,7 +20,7 @@ pub struct Point {
 }
 
 // Where reading ended: the octets left, how many records more could have been read, and whether a
-// record that was read is cut.
+// record that was read is cut. A mark and no Result: what was read before the cut is wanted too.
 #[derive(Clone, Copy)]
 pub struct Ended {
     pub point: Point,
@@ -28,17 +29,12 @@ pub struct Ended {
     pub cut: bool,
 }
 
-// 0 and the number of records, or 19.
+// What is told of a label: its report, and how many entries were looked at.
 #[derive(Clone, Copy)]
-pub struct Counted {
-    pub answer: u32,
-    pub count: usize,
-}
-
-// What is told: the number, and beside 0 the report and how many entries were looked at.
-#[derive(Clone, Copy)]
-pub struct Answer {
-    pub answer: u32,
+pub struct Told {
     pub looked: usize,
     pub report: Report,
 }
+
+// What is told, or why nothing is.
+pub type Answer = Result<Told, Refusal>;

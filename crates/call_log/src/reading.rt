@@ -1,85 +1,68 @@
 // A log read for one label, from a place on.
-ghost use Rattle.std.specs.Prelude.{◌≡◌, ◌≤◌, ◌-◌, cond, ◌&&◌, eqb, ltb};
-ghost use Rattle.call_log.specs.Reading.{later_of, clock_after, followed, more_of, ended_at, read_to, at_start, counted_by, count_of, entry_fits, ticked_to, refused_with, answer_from};
+ghost use Rattle.std.specs.Prelude.{◌≡◌};
+ghost use Rattle.call_log.specs.Reading.{later_of, clock_after, followed, more_of, ended_at, read_to, at_start, counted_in, count_of, entry_fits, told_in, answer_from};
 
-use crate::records::{header_fits, is_cut, is_whole, record_in, size_in};
-use crate::{Answer, Counted, Ended, Point};
-use capture::Record;
-use octets::{from_place, get_u16, part};
+use crate::records::{header_fits, is_cut, is_whole, size_in};
+use crate::{Answer, Ended, Point, Told};
+use capture::{Record, record_in};
+use octets::{Refusal, from_place, get_u16, part};
 use own::record_after;
-use rules::Report;
 use session::Session;
 use table::absent;
 
 // No reading is past this.
-const NEVER: u64 = 18_446_744_073_709_551_615;
+const NEVER: u64 = u64::MAX;
 
 // An accepted call that moves the clock past a reading.
 fn is_later(until: u64, r: Record, answer: u16) -> bool
     ensures { result ≡ later_of until r answer }
 {
-    if answer != 0 {
-        return false;
-    }
-    if 6 <= r.kind {
-        return false;
-    }
-    until < r.time
+    answer == 0 && r.kind < 6 && until < r.time
 }
 
 fn clock_after(r: Record, clock: u64) -> u64
     ensures { result ≡ clock_after r clock }
 {
-    if r.kind < 6 {
-        return r.time;
-    }
-    clock
+    if r.kind < 6 { r.time } else { clock }
 }
 
 // One record: a refused call leaves the label's record and the clock.
+#[tactic(auto, unfolding(crate::specs::Reading::followed))]
 pub fn follow(s: &[u8], label: u32, p: Point) -> Point
     ensures { result ≡ followed label s.now p }
 {
-    let answer = get_u16(s, 16);
-    if answer != 0 {
+    if get_u16(s, 16) != 0 {
         return p;
     }
     let r = record_in(s);
-    let session = record_after(r, part(s, 18, r.size as usize), label, p.session);
-    let clock = clock_after(r, p.clock);
     Point {
-        session: session,
-        clock: clock,
+        session: record_after(r, part(s, 18, r.size as usize), label, p.session),
+        clock: clock_after(r, p.clock),
     }
 }
 
 // With n records more to read, whether the next one is gone through.
+#[tactic(auto, unfolding(crate::specs::Reading::more_of))]
 fn more(s: &[u8], until: u64, n: usize) -> bool
     ensures { result ≡ more_of until n s.now }
 {
-    if n == 0 {
-        return false;
-    }
-    if is_whole(s) {
-        let answer = get_u16(s, 16);
-        return !is_later(until, record_in(s), answer);
-    }
-    false
+    0 < n && is_whole(s) && !is_later(until, record_in(s), get_u16(s, 16))
 }
 
 fn ended_at(n: usize, s: &[u8], p: Point) -> Ended
     ensures { result ≡ ended_at n s.now p }
 {
-    let cut = octets::both(0 < n, is_cut(s));
     Ended {
         point: p,
         left: s.len(),
         spare: n,
-        cut: cut,
+        cut: 0 < n && is_cut(s),
     }
 }
 
-// At most so many records, up to the first accepted one that moves the clock past `until`.
+// Records differ in size, so the loop has no index: it goes on by what is left of the octets and of the
+// records to read. At most so many records, up to the first accepted one that moves the clock past `until`.
+#[tactic(auto, using(crate::proofs::Turns::reads))]
 pub fn read_to(log: &[u8], label: u32, from: Point, most: usize, until: u64) -> Ended
     ensures { result ≡ read_to most label until log.now from }
 {
@@ -88,9 +71,8 @@ pub fn read_to(log: &[u8], label: u32, from: Point, most: usize, until: u64) -> 
     let mut left = most;
     while more(rest, until, left) {
         point = follow(rest, label, point);
-        let size = size_in(rest);
-        rest = &rest[size..];
-        left = left - 1;
+        rest = &rest[size_in(rest)..];
+        left -= 1;
     }
     ended_at(left, rest, point)
 }
@@ -99,110 +81,51 @@ pub fn read_to(log: &[u8], label: u32, from: Point, most: usize, until: u64) -> 
 pub fn at_start() -> Point
     ensures { result ≡ at_start }
 {
-    let session = absent();
     Point {
-        session: session,
+        session: absent(),
         clock: 0,
     }
 }
 
-fn counted_by(left: usize, spare: usize) -> Counted
-    requires { spare ≤ 65536 }
-    ensures { result ≡ cond (eqb left 0 && ltb 0 spare) (record { answer = 0; count = 65536 - spare }) (record { answer = 19; count = 0 }) }
-{
-    if left != 0 {
-        return Counted {
-            answer: 19,
-            count: 0,
-        };
-    }
-    if spare == 0 {
-        return Counted {
-            answer: 19,
-            count: 0,
-        };
-    }
-    Counted {
-        answer: 0,
-        count: 65_536 - spare,
-    }
-}
-
 // The number of records, or 19.
-pub fn count_of(log: &[u8]) -> Counted
-    ensures { result ≡ count_of log.now }
+#[tactic(auto, using(crate::proofs::Turns::spares), unfolding(crate::specs::Reading::count_of))]
+pub fn count_of(log: &[u8]) -> Result<usize, Refusal>
+    ensures { counted_in result ≡ count_of log.now }
 {
-    if header_fits(log) {
-        let e = read_to(from_place(log, 8), 0, at_start(), 65_536, NEVER);
-        return counted_by(e.left, e.spare);
+    if !header_fits(log) {
+        return Err(Refusal::BadLog);
     }
-    Counted {
-        answer: 19,
-        count: 0,
+    let e = read_to(from_place(log, 8), 0, at_start(), 65_536, NEVER);
+    if e.left == 0 && 0 < e.spare {
+        Ok(65_536 - e.spare)
+    } else {
+        Err(Refusal::BadLog)
     }
 }
 
 // Whether an entry of an index is in range.
+#[tactic(auto, unfolding(crate::specs::Reading::entry_fits))]
 pub fn entry_fits(s: Session, clock: u64, place: u64, label: u32, size: u64) -> bool
     ensures { result ≡ entry_fits s clock place label size }
 {
-    if place < 8 {
-        return false;
-    }
-    if size < place {
-        return false;
-    }
-    if s.settings.label == 0 {
-        return true;
-    }
-    if s.settings.label != label {
-        return false;
-    }
-    session::session_sound(s, clock)
-}
-
-fn ticked_to(clock: u64, reading: u64) -> u64
-    ensures { result ≡ ticked_to clock reading }
-{
-    if clock < reading {
-        return reading;
-    }
-    clock
-}
-
-fn refused_with(n: u32) -> Answer
-    ensures { result ≡ refused_with n }
-{
-    let report = Report {
-        state: 0,
-        crossing: 0,
-        loss: 0,
-        alarm: 0,
-        rdi: 0,
-        blocked: 0,
-        conditions: 0,
-    };
-    Answer {
-        answer: n,
-        looked: 0,
-        report: report,
-    }
+    let held = s.settings.label;
+    8 <= place && place <= size && (held == 0 || held == label && session::session_sound(s, clock))
 }
 
 // 19 for a record read that is cut, then 2, or the report at the reading.
+#[tactic(auto, unfolding(crate::specs::Reading::answer_from))]
 pub fn answer_from(e: Ended, reading: u64, looked: usize) -> Answer
-    ensures { result ≡ answer_from e reading looked }
+    ensures { told_in result ≡ answer_from e reading looked }
 {
     if e.cut {
-        return refused_with(19);
+        return Err(Refusal::BadLog);
     }
-    if e.point.session.settings.label == 0 {
-        return refused_with(2);
+    let Point { session, clock } = e.point;
+    if session.settings.label == 0 {
+        return Err(Refusal::NotOpen);
     }
-    let report = session::report_at(e.point.session, ticked_to(e.point.clock, reading));
-    Answer {
-        answer: 0,
-        looked: looked,
-        report: report,
-    }
+    Ok(Told {
+        looked,
+        report: session::report_at(session, clock.max(reading)),
+    })
 }

@@ -132,3 +132,8 @@ front-typed z text {now} {end} h e =
       ap (λ (q : Put). take q.at q.buffer) put
           ∙ rw (sets-eq text z 0 (omega arith), zero-add (length text)) (take_at text (drop (length text) z) (length text) refl),
     )
+
+-- one digit, and digits from the last one back
+pub ruleset one = (digit-typed)
+
+pub ruleset back = (filled_more, filled_none, filled-typed)

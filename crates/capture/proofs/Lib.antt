@@ -3,3 +3,5 @@ pub mod Digits
 pub mod LineSaid
 pub mod LineShort
 pub mod Raws
+pub mod Marks
+pub mod Stores

@@ -108,3 +108,11 @@ hex-fits p octets i b at {g} {h} l f e eg eh =
     rw two
     (hex-more p octets i l e eg (pushed-fits b at g (omega arith)) eh
     (pushed-fits (set b at g) (at + 1) h (rw (length-set b at g) (omega arith))))
+
+-- the parts of a text, one behind the other
+pub ruleset parts = (then, then-last, first_then)
+
+-- octets as they are, and in hex
+pub ruleset words = (typed-none, words_more, words-all)
+
+pub ruleset hexes = (hex-none, hex-more, hex-fits, hex-all)

@@ -1,6 +1,7 @@
 -- A capture: a header, and records one behind the other, big-endian. What each record calls.
 -- Assumes nothing.
-use Rattle.std.specs.Prelude.{ℕ, ◌+◌, ◌/◌, ◌%◌, Bool, true, false, not, cond, ◌&&◌, ◌||◌, List, length, get_or, take, drop, replicate, eqb, ltb, leb}
+use Rattle.std.specs.Prelude.{ℕ, ◌+◌, ◌/◌, ◌%◌, Bool, true, false, not, cond, ◌&&◌, ◌||◌, List, [], ◌∷◌, length, get_or, take, drop, replicate, eqb, ltb, leb}
+use Rattle.std.specs.List.{starts_with}
 use Rattle.octets.specs.Numbers.{number_at}
 use Rattle.cv.specs.declared.MepId.{MepId}
 use Rattle.cv.specs.MepId.{no_agi}
@@ -17,6 +18,10 @@ header_is first second third version x y z =
 
 unfoldable pub header_fits : List ℕ → Bool
 header_fits s = leb 8 (length s) && header_is (get_or s 0 0) (get_or s 1 0) (get_or s 2 0) (number_at 2 s 3) (get_or s 5 0) (get_or s 6 0) (get_or s 7 0)
+
+-- a mark of three letters with its version, as one run of octets at the front; `proofs/Marks.antt` says that a capture's header is such a mark
+unfoldable pub is_marked : ℕ → List ℕ → Bool
+is_marked letter s = starts_with eqb s (84 ∷ 80 ∷ letter ∷ 0 ∷ 1 ∷ 0 ∷ 0 ∷ 0 ∷ [])
 
 -- of the octets from a record's first on: 64-bit time, 32-bit label, 16-bit kind, 16-bit length, and the body
 unfoldable pub record_in : List ℕ → Record

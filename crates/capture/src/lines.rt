@@ -7,25 +7,26 @@ ghost use Rattle.capture.specs.Typing.{pushed, typed};
 use rules::Report;
 
 // One octet.
+#[tactic(auto, unfolding(crate::specs::Typing::pushed))]
 fn push(out: &mut [u8], at: usize, b: u8) -> usize
     ensures { record { buffer = out.new; at = result } ≡ pushed (record { buffer = out.old; at = at }) b }
 {
     if at < out.len() {
         out[at] = b;
-        return at + 1;
+        at + 1
+    } else {
+        at
     }
-    at
 }
 
 // Octets as they are.
+#[tactic(auto, using(crate::proofs::Typing::words))]
 pub fn put_words(out: &mut [u8], at: usize, words: &[u8]) -> usize
     ensures { record { buffer = out.new; at = result } ≡ typed (record { buffer = out.old; at = at }) words.now }
 {
     let mut next = at;
-    let mut i: usize = 0;
-    while i < words.len() {
-        next = push(&mut *out, next, words[i]);
-        i += 1;
+    for b in words {
+        next = push(&mut *out, next, *b);
     }
     next
 }
@@ -34,44 +35,25 @@ pub fn put_words(out: &mut [u8], at: usize, words: &[u8]) -> usize
 fn has_room(room: usize, at: usize, octets: usize) -> bool
     ensures { result ≡ leb (at + octets) room }
 {
-    if room < at {
-        return false;
-    }
-    octets <= room - at
+    at <= room && octets <= room - at
 }
 
 // How many of a number's last ten digits there are.
 fn few_digits(n: u64) -> usize
     ensures { result ≡ length (digits 10 n) }
 {
-    if n < 10 {
-        return 1;
+    match n {
+        0..=9 => 1,
+        10..=99 => 2,
+        100..=999 => 3,
+        1_000..=9_999 => 4,
+        10_000..=99_999 => 5,
+        100_000..=999_999 => 6,
+        1_000_000..=9_999_999 => 7,
+        10_000_000..=99_999_999 => 8,
+        100_000_000..=999_999_999 => 9,
+        _ => 10,
     }
-    if n < 100 {
-        return 2;
-    }
-    if n < 1_000 {
-        return 3;
-    }
-    if n < 10_000 {
-        return 4;
-    }
-    if n < 100_000 {
-        return 5;
-    }
-    if n < 1_000_000 {
-        return 6;
-    }
-    if n < 10_000_000 {
-        return 7;
-    }
-    if n < 100_000_000 {
-        return 8;
-    }
-    if n < 1_000_000_000 {
-        return 9;
-    }
-    10
 }
 
 // How many digits a number has.
@@ -79,23 +61,23 @@ fn digit_count(n: u64) -> usize
     ensures { result ≡ length (decimal n) }
 {
     if n < 10_000_000_000 {
-        return few_digits(n);
+        few_digits(n)
+    } else {
+        10 + few_digits(n / 10_000_000_000)
     }
-    10 + few_digits(n / 10_000_000_000)
 }
 
 // A number in decimal, from its last digit back; there is room for its digits.
+#[tactic(auto, using(crate::proofs::Digits::back))]
 fn fill_digits(out: &mut [u8], at: usize, count: usize, n: u64) -> usize
     requires count_value { count ≡ length (decimal n) }
     requires count_in_bounds { at + count ≤ length out.old }
     ensures { record { buffer = out.new; at = result } ≡ typed (record { buffer = out.old; at = at }) (decimal n) }
 {
     let mut rest = n;
-    let mut left = count;
-    while 0 < left {
-        left -= 1;
+    for left in (0..count).rev() {
         out[at + left] = 48 + (rest % 10) as u8;
-        rest = rest / 10;
+        rest /= 10;
     }
     at + count
 }
@@ -111,6 +93,7 @@ fn put_cut_digits(out: &mut [u8], at: usize, count: usize, n: u64) -> usize
 }
 
 // A number in decimal.
+#[tactic(auto, using(crate::proofs::Digits::one))]
 pub fn put_decimal(out: &mut [u8], at: usize, n: u64) -> usize
     ensures { record { buffer = out.new; at = result } ≡ typed (record { buffer = out.old; at = at }) (decimal n) }
 {
@@ -125,7 +108,8 @@ pub fn put_decimal(out: &mut [u8], at: usize, n: u64) -> usize
 }
 
 // A space and a number.
-fn put_spaced(out: &mut [u8], at: usize, n: u64) -> usize
+#[tactic(auto, using(crate::proofs::Typing::first_then))]
+pub fn put_spaced(out: &mut [u8], at: usize, n: u64) -> usize
     ensures { record { buffer = out.new; at = result } ≡ typed (record { buffer = out.old; at = at }) (spaced n) }
 {
     let next = push(&mut *out, at, 32);
@@ -136,40 +120,33 @@ fn hex_digit(d: u8) -> u8
     ensures { result ≡ hex_digit (d % 16) }
 {
     let x = d % 16;
-    if x < 10 {
-        return 48 + x;
-    }
-    87 + x
+    if x < 10 { 48 + x } else { 87 + x }
 }
 
 // Octets in hex, in one run; there is room for them.
+#[tactic(auto, using(crate::proofs::Typing::hexes))]
 fn fill_hex(out: &mut [u8], at: usize, octets: &[u8]) -> usize
     requires { at + 2 * length octets.now ≤ length out.old }
     ensures { record { buffer = out.new; at = result } ≡ typed (record { buffer = out.old; at = at }) (hex octets.now) }
 {
     let mut next = at;
-    let mut i: usize = 0;
-    while i < octets.len() {
-        let b = octets[i];
-        out[next] = hex_digit(b / 16);
-        out[next + 1] = hex_digit(b);
+    for b in octets {
+        out[next] = hex_digit(*b / 16);
+        out[next + 1] = hex_digit(*b);
         next += 2;
-        i += 1;
     }
     next
 }
 
 // Octets in hex that may run over the buffer's end.
+#[tactic(auto, using(crate::proofs::Typing::hexes))]
 fn put_cut_hex(out: &mut [u8], at: usize, octets: &[u8]) -> usize
     ensures { record { buffer = out.new; at = result } ≡ typed (record { buffer = out.old; at = at }) (hex octets.now) }
 {
     let mut next = at;
-    let mut i: usize = 0;
-    while i < octets.len() {
-        let b = octets[i];
-        next = push(&mut *out, next, hex_digit(b / 16));
-        next = push(&mut *out, next, hex_digit(b));
-        i += 1;
+    for b in octets {
+        next = push(&mut *out, next, hex_digit(*b / 16));
+        next = push(&mut *out, next, hex_digit(*b));
     }
     next
 }
@@ -179,12 +156,15 @@ fn put_hex(out: &mut [u8], at: usize, octets: &[u8]) -> usize
     ensures { record { buffer = out.new; at = result } ≡ typed (record { buffer = out.old; at = at }) (hex octets.now) }
 {
     if has_room(out.len(), at, 2 * octets.len()) {
-        return fill_hex(out, at, octets);
+        fill_hex(out, at, octets)
+    } else {
+        put_cut_hex(out, at, octets)
     }
-    put_cut_hex(out, at, octets)
 }
 
-fn put_report(out: &mut [u8], at: usize, r: Report) -> usize
+// The seven numbers of a report, a space before each.
+#[tactic(auto, using(crate::proofs::Typing::seven))]
+pub fn put_report(out: &mut [u8], at: usize, r: Report) -> usize
     ensures { record { buffer = out.new; at = result } ≡ typed (record { buffer = out.old; at = at }) (seven_numbers r) }
 {
     let a = put_spaced(&mut *out, at, r.state as u64);
@@ -197,6 +177,7 @@ fn put_report(out: &mut [u8], at: usize, r: Report) -> usize
 }
 
 // The number of a record and its answer.
+#[tactic(auto, using(crate::proofs::Typing::then))]
 fn put_answer(out: &mut [u8], at: usize, number: u64, answer: u32) -> usize
     ensures { record { buffer = out.new; at = result } ≡ typed (record { buffer = out.old; at = at }) (answer_text number answer) }
 {
@@ -205,6 +186,7 @@ fn put_answer(out: &mut [u8], at: usize, number: u64, answer: u32) -> usize
 }
 
 // The line of an answer with nothing behind it.
+#[tactic(auto, using(crate::proofs::Typing::parts), unfolding(crate::specs::Lines::plain_line))]
 pub fn put_plain(out: &mut [u8], at: usize, number: u64, answer: u32) -> usize
     ensures { record { buffer = out.new; at = result } ≡ typed (record { buffer = out.old; at = at }) (plain_line number answer) }
 {
@@ -213,6 +195,7 @@ pub fn put_plain(out: &mut [u8], at: usize, number: u64, answer: u32) -> usize
 }
 
 // The line of a refusal and where the message went wrong.
+#[tactic(auto, using(crate::proofs::Typing::parts), unfolding(crate::specs::Lines::placed_line))]
 pub fn put_placed(out: &mut [u8], at: usize, number: u64, answer: u32, place: usize) -> usize
     ensures { record { buffer = out.new; at = result } ≡ typed (record { buffer = out.old; at = at }) (placed_line number answer place) }
 {
@@ -222,6 +205,7 @@ pub fn put_placed(out: &mut [u8], at: usize, number: u64, answer: u32, place: us
 }
 
 // The line of a report.
+#[tactic(auto, using(crate::proofs::Typing::parts), unfolding(crate::specs::Lines::report_line))]
 pub fn put_reported(out: &mut [u8], at: usize, number: u64, r: Report) -> usize
     ensures { record { buffer = out.new; at = result } ≡ typed (record { buffer = out.old; at = at }) (report_line number r) }
 {
@@ -231,6 +215,7 @@ pub fn put_reported(out: &mut [u8], at: usize, number: u64, r: Report) -> usize
 }
 
 // The line of octets that were written.
+#[tactic(auto, using(crate::proofs::Typing::parts), unfolding(crate::specs::Lines::octets_line))]
 pub fn put_written(out: &mut [u8], at: usize, number: u64, octets: &[u8]) -> usize
     ensures { record { buffer = out.new; at = result } ≡ typed (record { buffer = out.old; at = at }) (octets_line number octets.now) }
 {

@@ -11,13 +11,13 @@ use Rattle.rules.proofs.Bools.{split, no_way}
 use Rattle.capture.specs.declared.Record.{Record}
 use Rattle.capture.specs.Records.{record_in, record_from, body_in}
 use Rattle.capture.specs.Raws.{Raw, Raws, raw_in, raw_size, stands_in, raws_in}
-use Rattle.capture.proofs.Raws.{stands-size, raws-none, raws-record}
+use Rattle.capture.proofs.Raws.{whole-stands, stands-size, raws-none, raws-record}
 use borrow.Author.Tests.{le-ltb, eqb-true}
 use Rattle.octets.proofs.Chain.{and_both}
 use Rattle.comparison.specs.declared.Marks.{Marks}
 use Rattle.comparison.specs.Differences.{same_octets, differ, only, fields_of, entry, differences}
 use Rattle.comparison.specs.Rest.{alike, agreeing}
-use Rattle.comparison.proofs.Octets.{part}
+use Rattle.comparison.proofs.Octets.{part, same_is}
 use Rattle.comparison.specs.Walk.{step_of, marks_between, extra, marks_of, marked, unmarked, alike_in}
 
 -- ---- the octets of a record
@@ -239,3 +239,12 @@ module _ (s t : List ℕ) where
       rw (raws-there s b.0, raws-there t b.1.0, b.1.1)
       (ap (λ (n : ℕ). n + agreeing (raws_in 16 (drop (step_of s) s)).raws (raws_in 16 (drop (step_of t) t)).raws) (sym (step-stands s b.0))
       ∙ ap (λ (n : ℕ). step_of s + agreeing (raws_in 16 (drop (step_of s) s)).raws (raws_in 16 (drop n t)).raws) (same_step h))
+
+-- what the cursor takes for whole stands there
+pub ruleset stood = (whole-stands)
+
+pub ruleset steps = (step-none, step-read)
+
+pub ruleset marks = (marks-second, marks-first, marks-both, same_is)
+
+pub ruleset alikes = (alike-none-first, alike-none-second, alike-there)

@@ -122,3 +122,7 @@ module _ (first second : List ℕ) where
       left : (a b : Bool) → a || b ≡ false → a ≡ false
       left true b h = h
       left false b h = refl
+
+pub ruleset answers = (refused-first, refused-second, refused-short, listed-all)
+
+pub ruleset places = (no-rest, rest-begins)

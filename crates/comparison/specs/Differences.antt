@@ -1,7 +1,9 @@
 -- Two captures compared record by record at the same position, over all fields: what differs, as a list of numbers.
 -- Assumes nothing.
-use Rattle.std.specs.Prelude.{ℕ, suc, ◌+◌, ◌*◌, Bool, true, false, not, cond, ◌&&◌, ◌||◌, List, [], ◌∷◌, ◌++◌, map, eqb, ltb, length, drop}
+use Rattle.std.specs.Prelude.{ℕ, suc, ◌+◌, ◌*◌, Bool, true, false, not, cond, ◌&&◌, ◌||◌, List, [], ◌∷◌, ◌++◌, Result, Ok, Err, map, eqb, ltb, length, drop}
+use Rattle.octets.specs.declared.refusals.Refusal.{Refusal}
 use Rattle.octets.specs.Choice.{bar}
+use Rattle.octets.specs.Refusals.{number_of}
 use Rattle.capture.specs.Records.{header_fits}
 use Rattle.capture.specs.Raws.{Raw, raws_in}
 
@@ -68,6 +70,11 @@ listed_by n entries list =
     cond (eqb n 0)
     (record { answer = n; count = length entries; list = entries ++ drop (length entries) list })
     (record { answer = n; count = 0; list = list })
+
+-- as the code says it: how many entries, or a refusal
+abbrev pub listed_in : Result ℕ Refusal → List ℕ → Listed
+listed_in (Ok n) list = record { answer = 0; count = n; list = list }
+listed_in (Err r) list = record { answer = number_of r; count = 0; list = list }
 
 unfoldable pub compared : List ℕ → List ℕ → List ℕ → Listed
 compared first second list = listed_by (refusal first second (length list)) (list_of first second) list

@@ -1,23 +1,17 @@
 // The list: an entry is 8 times the number of a record, from 1 on, and a code.
-ghost use Rattle.std.specs.Prelude.{◌≡◌, ◌||◌, ◌+◌, ◌*◌, ◌^◌, ◌≤◌, ◌<◌, set};
+ghost use Rattle.std.specs.Prelude.{◌≡◌, ◌||◌, ◌+◌, ◌*◌, ◌^◌, ◌≤◌, ◌<◌};
 ghost use Rattle.capture.specs.Raws.{stands_in};
-ghost use Rattle.comparison.specs.Differences.{Listed, only, list_of, compared};
+ghost use Rattle.comparison.specs.Differences.{only, list_of, listed_in, compared};
 ghost use Rattle.comparison.specs.Walk.{marked, Put};
 
+use crate::Marks;
 use crate::pair::{marks_of, stands, step_of};
 use crate::remaining::bad_capture;
-use crate::{Compared, Marks};
-use octets::{either, from_place};
-
-fn put_number(list: &mut [u64], at: usize, n: u64)
-    ensures { list.new ≡ set list.old at n }
-{
-    if at < list.len() {
-        list[at] = n;
-    }
-}
+use capture::put_at;
+use octets::{Refusal, from_place};
 
 // An entry where the test holds. Past the end it is counted and not written.
+#[tactic(auto, using(crate::proofs::Octets::puts))]
 fn put_only(list: &mut [u64], at: usize, test: bool, entry: u64) -> usize
     requires { at + 1 < 2 ^ 64 }
     ensures { (Put list.old at (only test entry) list.new result) × (result ≤ at + 1) }
@@ -25,11 +19,12 @@ fn put_only(list: &mut [u64], at: usize, test: bool, entry: u64) -> usize
     if !test {
         return at;
     }
-    put_number(list, at, entry);
+    put_at(list, at, entry);
     at + 1
 }
 
-// The entries of record n.
+// The entries of record n. Seven calls, and no loop over the marks: each field keeps its name beside its
+// code.
 fn put_marks(list: &mut [u64], at: usize, n: u64, m: Marks) -> usize
     requires { (at + 7 < 2 ^ 64) × (8 * n + 6 < 2 ^ 64) }
     ensures { (Put list.old at (marked n m) list.new result) × (result ≤ at + 7) }
@@ -44,10 +39,11 @@ fn put_marks(list: &mut [u64], at: usize, n: u64, m: Marks) -> usize
     put_only(&mut *list, f, m.second, base + 6)
 }
 
+// One function, and no `||` in the loop: the proof names the loop's test once.
 fn any_stands(s: &[u8], t: &[u8]) -> bool
     ensures { result ≡ (stands_in 16 s.now || stands_in 16 t.now) }
 {
-    either(stands(s), stands(t))
+    stands(s) || stands(t)
 }
 
 // All entries, as far as there is room, and their number. Each capture goes on by its own record's
@@ -59,45 +55,30 @@ fn put_list(first: &[u8], second: &[u8], list: &mut [u64]) -> usize
     let mut t = from_place(second, 8);
     let mut n: u64 = 1;
     let mut count: usize = 0;
+    // By two cursors: either log may end first.
     while any_stands(s, t) {
         count = put_marks(&mut *list, count, n, marks_of(s, t));
-        let a = step_of(s);
-        let b = step_of(t);
-        s = &s[a..];
-        t = &t[b..];
+        s = &s[step_of(s)..];
+        t = &t[step_of(t)..];
         n += 1;
     }
     count
 }
 
-fn refused(n: u32) -> Compared
-    ensures { (result.answer ≡ n) × (result.count ≡ 0) }
-{
-    Compared {
-        answer: n,
-        count: 0,
-    }
-}
-
-// What differs, at the front of the lent list; nothing is written beside a refusal. The entries are
-// counted first and then put.
-pub fn compare(first: &[u8], second: &[u8], list: &mut [u64]) -> Compared
-    ensures { record { answer = result.answer; count = result.count; list = list.new } ≡ compared first.now second.now list.old }
+// What differs, at the front of the lent list, and how many entries that are; nothing is written beside
+// a refusal. The entries are counted first and then put.
+#[tactic(auto, using(crate::proofs::Whole::answers))]
+pub fn compare(first: &[u8], second: &[u8], list: &mut [u64]) -> Result<usize, Refusal>
+    ensures { listed_in result list.new ≡ compared first.now second.now list.old }
 {
     if bad_capture(first) {
-        return refused(22);
+        return Err(Refusal::FirstCapture);
     }
     if bad_capture(second) {
-        return refused(23);
+        return Err(Refusal::SecondCapture);
     }
-    let mut none = [0u64; 0];
-    let count = put_list(first, second, &mut none);
-    if list.len() < count {
-        return refused(13);
+    if list.len() < put_list(first, second, &mut [0u64; 0]) {
+        return Err(Refusal::NoRoom);
     }
-    let put = put_list(first, second, list);
-    Compared {
-        answer: 0,
-        count: put,
-    }
+    Ok(put_list(first, second, list))
 }

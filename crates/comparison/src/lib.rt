@@ -12,15 +12,8 @@ pub use pair::{is_unmarked, marks_of, stands, step_of};
 pub use remaining::{bad_capture, rest, rest_place};
 pub use words::{put_entry, put_pair, put_refused, put_rest};
 
-// The answer, and how many entries the list has.
-#[derive(Clone, Copy)]
-pub struct Compared {
-    pub answer: u32,
-    pub count: usize,
-}
-
 // What is listed of the records at one position: the fields that differ, or whose an extra one is.
-#[derive(Clone, Copy)]
+#[derive(Clone, Copy, Debug, Default, PartialEq, Eq)]
 pub struct Marks {
     pub time: bool,
     pub label: bool,

@@ -6,7 +6,7 @@ ghost use Rattle.comparison.specs.Rest.{agreeing, rest_place, rest_of};
 
 use crate::pair::{are_alike, stands, step_of};
 use capture::header_fits;
-use octets::{either, from_place};
+use octets::from_place;
 
 // Whether something is left behind the whole records.
 fn is_cut(s: &[u8]) -> bool
@@ -14,20 +14,17 @@ fn is_cut(s: &[u8]) -> bool
 {
     let mut left = s;
     while stands(left) {
-        let step = step_of(left);
-        left = &left[step..];
+        left = &left[step_of(left)..];
     }
-    left.len() != 0
+    !left.is_empty()
 }
 
 // A bad header, or a cut.
+#[tactic(auto, unfolding(crate::specs::Differences::bad_capture))]
 pub fn bad_capture(capture: &[u8]) -> bool
     ensures { result ≡ bad_capture capture.now }
 {
-    if !header_fits(capture) {
-        return true;
-    }
-    is_cut(from_place(capture, 8))
+    !header_fits(capture) || is_cut(from_place(capture, 8))
 }
 
 // The octets of the records that agree. As long as they do, they lie at the same places in both.
@@ -42,10 +39,11 @@ fn agreeing_octets(s: &[u8], t: &[u8]) -> usize
 }
 
 // Where the rest begins.
+#[tactic(auto, using(crate::proofs::Whole::places))]
 pub fn rest_place(first: &[u8], second: &[u8]) -> usize
     ensures { (result ≡ rest_place first.now second.now) × (result ≤ length first.now) }
 {
-    if either(bad_capture(first), bad_capture(second)) {
+    if bad_capture(first) || bad_capture(second) {
         return first.len();
     }
     8 + agreeing_octets(from_place(first, 8), from_place(second, 8))
@@ -53,10 +51,10 @@ pub fn rest_place(first: &[u8], second: &[u8]) -> usize
 
 // The first capture from its first record that differs, an extra one counting; its empty tail where
 // there is none, and where one of the two captures is bad.
+#[tactic(auto, using(crate::proofs::Octets::part), unfolding(crate::specs::Rest::rest_of))]
 pub fn rest<'a, 'b>(first: &'a [u8], second: &'b [u8]) -> &'a [u8]
     ensures which { result.now ≡ rest_of first.now second.now }
     ensures whose { (result.ref_ptr.0 ≡ first.entry.ref_ptr.0) × (result.ref_ptr.1 ≡ rest_place first.now second.now + first.entry.ref_ptr.1) }
 {
-    let at = rest_place(first, second);
-    &first[at..]
+    &first[rest_place(first, second)..]
 }

@@ -10,28 +10,19 @@ use capture::{put_decimal, put_words};
 fn put_code(out: &mut [u8], at: usize, code: u64) -> usize
     ensures { record { buffer = out.new; at = result } ≡ typed (record { buffer = out.old; at = at }) (code_text code) }
 {
-    if code == 0 {
-        return put_words(out, at, b" time\n");
+    match code {
+        0 => put_words(out, at, b" time\n"),
+        1 => put_words(out, at, b" label\n"),
+        2 => put_words(out, at, b" kind\n"),
+        3 => put_words(out, at, b" length\n"),
+        4 => put_words(out, at, b" body\n"),
+        5 => put_words(out, at, b" only in the first\n"),
+        _ => put_words(out, at, b" only in the second\n"),
     }
-    if code == 1 {
-        return put_words(out, at, b" label\n");
-    }
-    if code == 2 {
-        return put_words(out, at, b" kind\n");
-    }
-    if code == 3 {
-        return put_words(out, at, b" length\n");
-    }
-    if code == 4 {
-        return put_words(out, at, b" body\n");
-    }
-    if code == 5 {
-        return put_words(out, at, b" only in the first\n");
-    }
-    put_words(out, at, b" only in the second\n")
 }
 
 // An entry of the list.
+#[tactic(auto, using(capture::proofs::Typing::parts), unfolding(crate::specs::Words::entry_line))]
 pub fn put_entry(out: &mut [u8], at: usize, entry: u64) -> usize
     ensures { record { buffer = out.new; at = result } ≡ typed (record { buffer = out.old; at = at }) (entry_line entry) }
 {
@@ -40,6 +31,7 @@ pub fn put_entry(out: &mut [u8], at: usize, entry: u64) -> usize
 }
 
 // A line of record n where the test holds.
+#[tactic(auto, using(capture::proofs::Typing::parts))]
 fn put_mark(out: &mut [u8], at: usize, n: u64, test: bool, code: u64) -> usize
     ensures { record { buffer = out.new; at = result } ≡ typed (record { buffer = out.old; at = at }) (mark_line n test code) }
 {
@@ -51,6 +43,7 @@ fn put_mark(out: &mut [u8], at: usize, n: u64, test: bool, code: u64) -> usize
 }
 
 // The lines of record n.
+#[tactic(auto, using(capture::proofs::Typing::parts), unfolding(crate::specs::Words::pair_text))]
 pub fn put_pair(out: &mut [u8], at: usize, n: u64, m: Marks) -> usize
     ensures { record { buffer = out.new; at = result } ≡ typed (record { buffer = out.old; at = at }) (pair_text n m) }
 {
@@ -64,6 +57,7 @@ pub fn put_pair(out: &mut [u8], at: usize, n: u64, m: Marks) -> usize
 }
 
 // A number to a line's end.
+#[tactic(auto, using(capture::proofs::Typing::parts))]
 fn put_last(out: &mut [u8], at: usize, n: u64) -> usize
     ensures { record { buffer = out.new; at = result } ≡ typed (record { buffer = out.old; at = at }) (decimal n ++ w_end) }
 {

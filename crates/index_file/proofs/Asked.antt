@@ -14,17 +14,16 @@ use Rattle.table.specs.Table.{absent}
 use Rattle.halving.specs.declared.Found.{Found}
 use Rattle.halving.specs.Search.{found, looks_of, looks}
 use Rattle.halving.proofs.Halves.{found_inside}
-use Rattle.call_log.specs.declared.Answer.{Answer}
 use Rattle.call_log.specs.Records.{header_fits}
-use Rattle.call_log.specs.Reading.{entry_fits}
+use Rattle.call_log.specs.Reading.{Answer, entry_fits}
 use Rattle.indexing.specs.Asking.{ask_refusal, answer_at, room_of, fits_at, all_fit, answer_of, searched, ask_of}
-use Rattle.index_file.specs.declared.Sought.{Sought}
 use Rattle.index_file.specs.Octets.{entry_in}
 use Rattle.index_file.specs.Files.{head_of, clock_at, entry_at, clocks_in, places_in, records_in}
-use Rattle.index_file.specs.Seeking.{fits_in, judged_of, seek_refusal, used_in, sought_by, sought_in, asked_from}
+use Rattle.indexing.specs.Judging.{judged_of}
+use Rattle.index_file.specs.Seeking.{Sought, fits_in, seek_refusal, used_in, sought_by, sought_in, asked_from}
 use Rattle.index_file.specs.Windows.{window_of}
 use Rattle.index_file.proofs.Lists.{each-length, each_at}
-use Rattle.index_file.proofs.Judged.{judged-is}
+use Rattle.indexing.proofs.Halved.{judged-is}
 use Rattle.index_file.proofs.Seeks.{head_few}
 use Rattle.index_file.proofs.Windows.{window-enough}
 

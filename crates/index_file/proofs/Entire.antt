@@ -22,11 +22,10 @@ use Rattle.indexing.specs.Filling.{entries_of}
 use Rattle.indexing.proofs.Counts.{header-size}
 use Rattle.indexing.proofs.Filled.{place_rest, entry_next}
 use Rattle.session.specs.declared.Session.{Session}
-use Rattle.index_file.specs.declared.Indexing.{Indexing}
 use Rattle.index_file.specs.Octets.{entry_octets}
 use Rattle.index_file.specs.Files.{place_of}
 use Rattle.index_file.specs.Windows.{window_of}
-use Rattle.index_file.specs.Blocks.{start_of, refused_at, entry_for, Building, block_of, blocks_of}
+use Rattle.index_file.specs.Blocks.{Indexing, start_of, refused_at, entry_for, Building, block_of, blocks_of}
 use Rattle.index_file.proofs.Streamed.{step_of, block-step}
 use Rattle.index_file.proofs.Goes.{joined-read, stopped-read, same_reads}
 use Rattle.index_file.proofs.Windows.{header-front}

@@ -1,6 +1,5 @@
 pub mod Back
 pub mod Lists
-pub mod Judged
 pub mod Seeks
 pub mod Windows
 pub mod Asked
@@ -9,3 +8,4 @@ pub mod Goes
 pub mod Entire
 pub mod Stretches
 pub mod Together
+pub mod Stages

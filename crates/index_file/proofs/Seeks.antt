@@ -16,9 +16,9 @@ use Rattle.indexing.specs.declared.IndexHead.{IndexHead}
 use Rattle.indexing.specs.Asking.{head_fits}
 use Rattle.indexing.proofs.Looks.{head_passed}
 use Rattle.index_file.specs.declared.Entry.{Entry}
-use Rattle.index_file.specs.declared.Sought.{Sought}
 use Rattle.index_file.specs.Files.{head_of, clock_at, clocks_in, entry_at}
-use Rattle.index_file.specs.Seeking.{fits_in, judged_of, seek_refusal, refused_by, used_in, sought_by, sought_in}
+use Rattle.indexing.specs.Judging.{judged_of}
+use Rattle.index_file.specs.Seeking.{Sought, fits_in, seek_refusal, refused_by, used_in, sought_by, sought_in}
 use Rattle.index_file.proofs.Lists.{each-length}
 
 -- a head that is not refused: 1 to 256 entries

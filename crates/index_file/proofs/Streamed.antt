@@ -15,9 +15,8 @@ use Rattle.call_log.specs.Reading.{read_to, never}
 use Rattle.call_log.proofs.Turns.{left-most}
 use Rattle.indexing.specs.declared.Filling.{Filling}
 use Rattle.indexing.specs.Filling.{reads_for, read_for, filled_by}
-use Rattle.index_file.specs.declared.Indexing.{Indexing}
 use Rattle.index_file.specs.Windows.{window_size, window_of}
-use Rattle.index_file.specs.Blocks.{further, refused_at, after_block, block_of}
+use Rattle.index_file.specs.Blocks.{Indexing, further, refused_at, after_block, block_of}
 use Rattle.index_file.proofs.Windows.{Alike, alike}
 
 -- what the records behind an entry come to, with the whole log

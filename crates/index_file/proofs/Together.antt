@@ -1,6 +1,6 @@
 -- The two programs together: asked by the file that is built of a log whose answers are our run's, the answer is the report of our run.
 -- Assumes nothing.
-use Prim.Native.Nat.{ℕ, min, ◌+◌, ◌*◌, ◌-◌, ◌/◌, ◌^◌, ◌≤◌, ◌<◌}
+use Prim.Native.Nat.{ℕ, min, ◌+◌, ◌*◌, ◌/◌, ◌^◌, ◌≤◌, ◌<◌}
 use native.Mathlib.Omega.{arith}
 use native.Mathlib.Nat.{min-eq_left}
 use mathlib.Core.Path.{◌≡◌, refl, sym, ap, ◌∙◌}
@@ -14,9 +14,8 @@ use Rattle.octets.specs.Numbers.{number_at}
 use Rattle.rules.specs.Times.{latest}
 use Rattle.session.specs.declared.Session.{Session}
 use Rattle.own.proofs.Ungrouped.{absent-ungrouped}
-use Rattle.call_log.specs.declared.Answer.{Answer}
 use Rattle.call_log.specs.Records.{header_fits}
-use Rattle.call_log.specs.Reading.{never, at_start, count_of}
+use Rattle.call_log.specs.Reading.{Answer, never, at_start, count_of}
 use Rattle.call_log.specs.Entries.{entry_point, entry_place}
 use Rattle.call_log.proofs.Turns.{read-ungrouped}
 use Rattle.call_log.proofs.Runs.{reported}

@@ -1,17 +1,45 @@
 -- An index file built from a log block by block: what the code does. `proofs/Streamed.antt` says that it is `build_of`'s index.
 -- Assumes nothing.
-use Rattle.std.specs.Prelude.{ℕ, zero, suc, min, ◌+◌, ◌-◌, true, false, cond, List, [], length, eqb, ltb}
+use Rattle.std.specs.Prelude.{ℕ, zero, suc, min, ◌+◌, ◌-◌, Bool, true, false, cond, List, [], length, eqb, ltb}
 use Rattle.std.proofs.lemmas.List.Edits.{sets}
 use Rattle.octets.specs.Choice.{need}
+use Rattle.octets.specs.Refusals.{number_of}
+use Rattle.call_log.specs.declared.Point.{Point}
 use Rattle.call_log.specs.declared.Ended.{Ended}
 use Rattle.call_log.specs.Records.{header_fits}
 use Rattle.call_log.specs.Reading.{read_to, never, at_start}
 use Rattle.indexing.specs.declared.IndexHead.{IndexHead}
 use Rattle.index_file.specs.declared.Entry.{Entry}
-use Rattle.index_file.specs.declared.Indexing.{Indexing}
+use Rattle.index_file.specs.declared.Indexing.{Indexing as Made}
+use Rattle.index_file.specs.declared.Stage.{Stage}
+use Rattle.index_file.specs.declared.Stage.TheVariants.{More, Over, Refused}
 use Rattle.index_file.specs.Octets.{entry_octets, head_octets}
 use Rattle.index_file.specs.Files.{place_of}
 use Rattle.index_file.specs.Windows.{window_of}
+
+-- how far a file is built: what stands before the next entry, the place of the next record of the log there, how many entries there are, the label, 0 or 19, and
+-- whether another entry is to be put
+pub record Indexing : Type 0 where
+  pub point : Point
+  pub place : ℕ
+  pub count : ℕ
+  pub label : ℕ
+  pub answer : ℕ
+  pub more : Bool
+
+-- as the code says it
+abbrev pub answer_at : Stage → ℕ
+answer_at More = 0
+answer_at Over = 0
+answer_at (Refused r) = number_of r
+
+abbrev pub goes_on : Stage → Bool
+goes_on More = true
+goes_on Over = false
+goes_on (Refused r) = false
+
+abbrev pub indexing_of : Made → Indexing
+indexing_of x = record { point = x.point; place = x.place; count = x.count; label = x.label; answer = answer_at x.stage; more = goes_on x.stage }
 
 -- a sum that stays at the greatest number
 abbrev pub further : ℕ → ℕ → ℕ

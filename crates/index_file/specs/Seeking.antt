@@ -1,44 +1,45 @@
 -- The entry of an index file that an answer comes from, and the answer: what the code does. `proofs/Asked.antt` says that it is `ask_of`'s.
 -- Assumes nothing.
-use Rattle.std.specs.Prelude.{ℕ, zero, suc, min, ◌+◌, ◌-◌, ◌/◌, Bool, false, cond, List, eqb, ltb, leb}
+use Rattle.std.specs.Prelude.{ℕ, min, Bool, cond, List, Result, Ok, Err, eqb, ltb}
+use Rattle.octets.specs.declared.refusals.Refusal.{Refusal}
 use Rattle.octets.specs.Choice.{need, bar}
+use Rattle.octets.specs.Refusals.{number_of}
 use Rattle.rules.specs.Times.{latest}
 use Rattle.table.specs.Table.{absent}
 use Rattle.halving.specs.declared.Found.{Found}
 use Rattle.halving.specs.Search.{found}
-use Rattle.call_log.specs.declared.Answer.{Answer}
-use Rattle.call_log.specs.Reading.{entry_fits, refused_with}
+use Rattle.call_log.specs.Reading.{Answer, entry_fits, refused_with}
 use Rattle.indexing.specs.declared.IndexHead.{IndexHead}
 use Rattle.indexing.specs.Asking.{head_fits, answer_at}
+use Rattle.indexing.specs.Judging.{judged_of}
 use Rattle.index_file.specs.declared.Entry.{Entry}
-use Rattle.index_file.specs.declared.Sought.{Sought}
+use Rattle.index_file.specs.declared.Used.{Used}
 use Rattle.index_file.specs.Files.{head_of, clocks_in, entry_at}
 
 -- whether entry k is in range
 abbrev pub fits_in : List ℕ → ℕ → ℕ → ℕ → Bool
 fits_in s l size k = entry_fits (entry_at s k).session (entry_at s k).clock (entry_at s k).place l size
 
--- of n candidates those on the way to place p are judged, and the one there; at most k of them are halved
-unfoldable pub judged_by : ℕ → (ℕ → Bool) → ℕ → ℕ → ℕ → Bool
-judged_by zero fits p first n = fits first
-judged_by (suc k) fits p first n =
-    cond (ltb n 2) (fits first)
-    (cond (fits (first + n / 2))
-    (cond (leb (first + n / 2) p) (judged_by k fits p (first + n / 2) (n - n / 2)) (judged_by k fits p first (n / 2)))
-    false)
-
-unfoldable pub judged_of : (ℕ → Bool) → ℕ → ℕ → ℕ → Bool
-judged_of fits p first n = judged_by n fits p first n
-
 -- 1 for a reading above the greatest, 19 for a log with another header, 20
 abbrev pub seek_refusal : IndexHead → Bool → ℕ → ℕ → ℕ → ℕ
 seek_refusal h marked size l u = bar (ltb latest u) 1 (need marked 19 (need (head_fits h l size 256) 20 0))
+
+-- what is sought: 0, with the entry that is used and how many were looked at, or a refusal, with neither
+pub record Sought : Type 0 where
+  pub entry : Entry
+  pub looked : ℕ
+  pub answer : ℕ
 
 abbrev pub no_entry : Entry
 no_entry = record { clock = 0; place = 0; session = absent }
 
 abbrev pub refused_by : ℕ → Sought
 refused_by n = record { entry = no_entry; looked = 0; answer = n }
+
+-- as the code says it
+abbrev pub said_of : Result Used Refusal → Sought
+said_of (Ok x) = record { entry = x.entry; looked = x.looked; answer = 0 }
+said_of (Err r) = refused_by (number_of r)
 
 -- the entry that is found is used if those looked at and itself are in range
 abbrev pub used_in : List ℕ → ℕ → ℕ → ℕ → Found → Sought

@@ -3,7 +3,7 @@
 use Rattle.std.specs.Prelude.{ℕ, cond, List, [], ◌∷◌, ◌++◌, eqb}
 use Rattle.capture.specs.Lines.{decimal, spaced, seven_numbers}
 use Rattle.rules.specs.declared.Report.{Report}
-use Rattle.call_log.specs.declared.Answer.{Answer}
+use Rattle.call_log.specs.Reading.{Answer}
 
 unfoldable pub refused_line : ℕ → List ℕ
 refused_line n = decimal n ++ 10 ∷ []

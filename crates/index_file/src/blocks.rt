@@ -1,92 +1,73 @@
 // An index file built from a log block by block: an entry, then the 256 records behind it.
 ghost use Rattle.std.specs.Prelude.{◌≡◌, ◌≤◌};
-ghost use Rattle.index_file.specs.Blocks.{further, start_of, onward, over_at, refused_at, after_block, block_of, head_built, finished_of};
+ghost use Rattle.index_file.specs.Blocks.{indexing_of, start_of, onward, over_at, refused_at, after_block, block_of, head_built, finished_of};
 
 use crate::seeking::place_of;
 use crate::writing::{entry_octets, head_octets};
-use crate::{Entry, Indexing};
+use crate::{Entry, Indexing, Stage};
 use call_log::{Ended, at_start, header_fits, read_to};
 use indexing::IndexHead;
-use octets::{least, need, put_octets};
+use octets::{Refusal, put_octets};
 
 // No reading is past this.
-const NEVER: u64 = 18_446_744_073_709_551_615;
-
-// A sum that stays at the greatest number.
-fn further(place: u64, n: usize) -> u64
-    ensures { result ≡ further place n }
-{
-    if u64::MAX - place < n as u64 {
-        return u64::MAX;
-    }
-    place + n as u64
-}
+const NEVER: u64 = u64::MAX;
 
 // Before the first entry: 19 for a log with another header, of which the front is lent.
 pub fn start(front: &[u8], label: u32) -> Indexing
-    ensures { result ≡ start_of front.now label }
+    ensures { indexing_of result ≡ start_of front.now label }
 {
-    let marked = header_fits(front);
-    let point = at_start();
     Indexing {
-        point: point,
+        point: at_start(),
         place: 8,
         count: 0,
-        label: label,
-        answer: need(marked, 19, 0),
-        more: marked,
+        label,
+        stage: if header_fits(front) {
+            Stage::More
+        } else {
+            Stage::Refused(Refusal::BadLog)
+        },
     }
 }
 
 // 256 records were read: another entry stands behind them.
 fn onward(x: Indexing, e: Ended, gone: usize) -> Indexing
-    ensures { result ≡ onward x e gone }
+    ensures { indexing_of result ≡ onward (indexing_of x) e gone }
 {
-    let point = e.point;
     Indexing {
-        point: point,
-        place: further(x.place, gone),
-        count: least(x.count, 255) + 1,
-        label: x.label,
-        answer: 0,
-        more: true,
+        point: e.point,
+        stage: Stage::More,
+        ..over_at(x, gone)
     }
 }
 
 // The log ended.
 fn over_at(x: Indexing, gone: usize) -> Indexing
-    ensures { result ≡ over_at x gone }
+    ensures { indexing_of result ≡ over_at (indexing_of x) gone }
 {
-    let point = x.point;
     Indexing {
-        point: point,
-        place: further(x.place, gone),
-        count: least(x.count, 255) + 1,
-        label: x.label,
-        answer: 0,
-        more: false,
+        place: x.place.saturating_add(gone as u64),
+        count: x.count.min(255) + 1,
+        stage: Stage::Over,
+        ..x
     }
 }
 
 // A cut record, or one too many.
 fn refused_at(x: Indexing) -> Indexing
-    ensures { result ≡ refused_at x }
+    ensures { indexing_of result ≡ refused_at (indexing_of x) }
 {
-    let point = x.point;
     Indexing {
-        point: point,
-        place: x.place,
         count: 0,
-        label: x.label,
-        answer: 19,
-        more: false,
+        stage: Stage::Refused(Refusal::BadLog),
+        ..x
     }
 }
 
 // What the records behind an entry come to, of a window of so many octets.
+#[tactic(auto, unfolding(crate::specs::Blocks::after_block))]
 fn after_block(x: Indexing, e: Ended, size: usize) -> Indexing
     requires { e.left ≤ size }
-    ensures { result ≡ after_block x e size }
+    ensures { indexing_of result ≡ after_block (indexing_of x) e size }
 {
     if e.spare == 0 {
         if x.count < 255 {
@@ -102,40 +83,38 @@ fn after_block(x: Indexing, e: Ended, size: usize) -> Indexing
 
 // One entry is put, and the records behind it are read in a window of the log from its place on.
 pub fn block(out: &mut [u8], x: Indexing, window: &[u8]) -> Indexing
-    ensures { record { indexing = result; out = out.new } ≡ block_of out.old x window.now }
+    ensures { record { indexing = indexing_of result; out = out.new } ≡ block_of out.old (indexing_of x) window.now }
 {
-    let point = x.point;
-    let session = point.session;
-    let entry = Entry {
-        clock: point.clock,
+    let o = entry_octets(Entry {
+        clock: x.point.clock,
         place: x.place,
-        session: session,
-    };
-    let o = entry_octets(entry);
+        session: x.point.session,
+    });
     put_octets(&mut *out, place_of(x.count), &o);
-    let e = read_to(window, x.label, point, 256, NEVER);
+    let e = read_to(window, x.label, x.point, 256, NEVER);
     after_block(x, e, window.len())
 }
 
 fn head_built(x: Indexing) -> IndexHead
-    ensures { result ≡ head_built x }
+    ensures { result ≡ head_built (indexing_of x) }
 {
     IndexHead {
         length: x.place,
         label: x.label,
-        count: least(x.count, 256) as u32,
+        count: x.count.min(256) as u32,
     }
 }
 
 // The head is put before the entries, and how many octets the file has is told; a refusal writes
 // nothing and has none.
+#[tactic(auto, unfolding(crate::specs::Blocks::finished_of))]
 pub fn finish(out: &mut [u8], x: Indexing) -> usize
-    ensures { record { size = result; out = out.new } ≡ finished_of out.old x }
+    ensures { record { size = result; out = out.new } ≡ finished_of out.old (indexing_of x) }
 {
-    if x.answer == 0 {
-        let o = head_octets(head_built(x));
-        put_octets(out, 0, &o);
-        return place_of(x.count);
+    if let Stage::Refused(_) = x.stage {
+        return 0;
     }
-    0
+    let o = head_octets(head_built(x));
+    put_octets(out, 0, &o);
+    place_of(x.count)
 }

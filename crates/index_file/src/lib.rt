@@ -15,6 +15,7 @@ mod writing;
 
 pub use blocks::{block, finish, start};
 use call_log::Point;
+use octets::Refusal;
 pub use reading::{entry_in, head_in};
 pub use seeking::{asked_from, place_of, sought_in};
 use session::Session;
@@ -29,23 +30,31 @@ pub struct Entry {
     pub session: Session,
 }
 
-// What is sought in an index file: 0, with the entry that is used and how many were looked at, or a
-// refusal, with neither.
+// The entry that is used, and how many were looked at.
 #[derive(Clone, Copy)]
-pub struct Sought {
+pub struct Used {
     pub entry: Entry,
     pub looked: usize,
-    pub answer: u32,
+}
+
+// What is sought in an index file, or why it is not found.
+pub type Sought = Result<Used, Refusal>;
+
+// Whether another entry is to be put, the log has ended, or it is refused.
+#[derive(Clone, Copy, Debug, PartialEq, Eq)]
+pub enum Stage {
+    More,
+    Over,
+    Refused(Refusal),
 }
 
 // How far a file is built: what stands before the next entry, the place of the next record of the log
-// there, how many entries there are, the label, 0 or 19, and whether another entry is to be put.
+// there, how many entries there are, the label, and whether it goes on.
 #[derive(Clone, Copy)]
 pub struct Indexing {
     pub point: Point,
     pub place: u64,
     pub count: usize,
     pub label: u32,
-    pub answer: u32,
-    pub more: bool,
+    pub stage: Stage,
 }

@@ -34,6 +34,7 @@ fn condition_in(s: &[u8]) -> Condition
     }
 }
 
+#[tactic(auto, unfolding(crate::specs::Octets::conditions_in))]
 fn conditions_in(s: &[u8]) -> Conditions
     ensures { result ≡ conditions_in s.now }
 {
@@ -70,6 +71,7 @@ fn mep_in(s: &[u8]) -> MepId
     }
 }
 
+#[tactic(auto, unfolding(crate::specs::Octets::settings_in))]
 fn settings_in(s: &[u8]) -> Settings
     ensures { result ≡ settings_in s.now }
 {
@@ -85,6 +87,7 @@ fn settings_in(s: &[u8]) -> Settings
     }
 }
 
+#[tactic(auto, unfolding(crate::specs::Octets::peer_in))]
 fn peer_in(s: &[u8]) -> Peer
     ensures { result ≡ peer_in s.now }
 {
@@ -97,6 +100,7 @@ fn peer_in(s: &[u8]) -> Peer
 }
 
 // A log leaves no record with a group, and so an entry has no octets for one.
+#[tactic(auto, unfolding(crate::specs::Octets::session_in))]
 fn session_in(s: &[u8]) -> Session
     ensures { result ≡ session_in s.now }
 {
@@ -112,6 +116,7 @@ fn session_in(s: &[u8]) -> Session
     }
 }
 
+#[tactic(auto, unfolding(crate::specs::Octets::entry_in))]
 pub fn entry_in(s: &[u8]) -> Entry
     ensures { result ≡ entry_in s.now }
 {

@@ -23,10 +23,9 @@ use Rattle.walks.specs.AtPlace.{Afterwards, at_place}
 use Rattle.halving.specs.Search.{found, looks_of, looks}
 use Rattle.halving.proofs.Halves.{found_inside, looks-eight, looked-is}
 use Rattle.own.specs.Records.{held_in}
-use Rattle.call_log.specs.declared.Answer.{Answer}
 use Rattle.call_log.specs.declared.Point.{Point}
 use Rattle.call_log.specs.Records.{logged_by}
-use Rattle.call_log.specs.Reading.{read_to, answer_from, entry_fits, count_of}
+use Rattle.call_log.specs.Reading.{Answer, read_to, answer_from, entry_fits, count_of}
 use Rattle.call_log.specs.Runs.{Ours, behind_all}
 use Rattle.call_log.specs.Entries.{entry_point, entry_place}
 use Rattle.call_log.proofs.Runs.{Agrees, order-behind, reported}

@@ -3,7 +3,7 @@
 use Prim.Native.Nat.{ℕ, zero, suc, ◌+◌, ◌*◌, ◌-◌, ◌/◌, ◌≤◌, ◌<◌}
 use native.Mathlib.Omega.{arith}
 use mathlib.Core.Path.{◌≡◌, refl, sym, ap, ◌∙◌}
-use mathlib.Core.Bool.{Bool, true, false, cond, not, ◌&&◌, ◌||◌}
+use mathlib.Core.Bool.{true, false, cond, ◌&&◌}
 use mathlib.Core.List.{List, [], ◌∷◌}
 use lib.Dec.{eqb, ltb, leb}
 use lib.ListN.{length, get_or, set, drop, length-drop, length-set}
@@ -16,22 +16,20 @@ use Rattle.rules.proofs.Bools.{split, no_way, or_right}
 use Rattle.session.specs.declared.Session.{Session}
 use Rattle.table.specs.Table.{Table, open_of, in_order, find, receive_answer, open_answer, act_answer, asked, answer, altered, added, closed, act_done, done, next, emptied}
 use Rattle.table.proofs.Order.{order-kept}
-use Rattle.walks.specs.AtPlace.{Afterwards, at_place}
+use Rattle.walks.specs.AtPlace.{at_place}
 use Rattle.indexing.specs.declared.Filling.{Filling}
 use Rattle.indexing.specs.Filling.{onward, reads_for, read_for, filled_by, fill_one, fills_of, fill_all, filling_from, Noted, note_one, notes_of, note_all}
 use Rattle.indexing.proofs.Fills.{notes-go}
 use Rattle.indexing.specs.Asking.{answer_at}
 use Rattle.halving.specs.Search.{found}
 use Rattle.halving.proofs.Halves.{found_inside}
-use Rattle.call_log.specs.declared.Answer.{Answer}
 use Rattle.call_log.specs.declared.Point.{Point}
-use Rattle.call_log.specs.declared.Ended.{Ended}
 use Rattle.call_log.specs.Records.{Logged, size_in, behind, logged_by}
-use Rattle.call_log.specs.Reading.{read_to, ended_at, never, at_start, answer_from}
+use Rattle.call_log.specs.Reading.{Answer, read_to, ended_at, never, at_start, answer_from}
 use Rattle.call_log.specs.Runs.{behind_all}
-use Rattle.call_log.specs.Entries.{rest_after, point_after, Rises, entry_point, entry_rest, entry_place}
+use Rattle.call_log.specs.Entries.{rest_after, point_after, entry_point, entry_rest, entry_place}
 use Rattle.call_log.proofs.Turns.{whole-size}
-use Rattle.call_log.proofs.Runs.{Agrees, reported}
+use Rattle.call_log.proofs.Runs.{reported}
 use Rattle.call_log.proofs.Entries.{skips, rest-joined, point-joined, rises-front, rises-rest}
 use Rattle.call_log.proofs.Asking.{Wholes, OurLog, wholes-front, rises-start, start-order, index-holds, front_of, ask-all}
 

@@ -4,3 +4,6 @@ pub mod Builds
 pub mod Filled
 pub mod Counts
 pub mod Asks
+pub mod Halved
+pub mod Asked
+pub mod Refused

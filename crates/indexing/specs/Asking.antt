@@ -6,9 +6,8 @@ use Rattle.rules.specs.Times.{latest}
 use Rattle.session.specs.declared.Session.{Session}
 use Rattle.table.specs.Table.{absent}
 use Rattle.halving.specs.Search.{found, looks}
-use Rattle.call_log.specs.declared.Answer.{Answer}
 use Rattle.call_log.specs.Records.{header_fits}
-use Rattle.call_log.specs.Reading.{read_to, answer_from, entry_fits, refused_with}
+use Rattle.call_log.specs.Reading.{Answer, read_to, answer_from, entry_fits, refused_with}
 use Rattle.indexing.specs.declared.IndexHead.{IndexHead}
 
 -- an index of this label and of a log of so many octets, with 1 to 256 entries, all of them in the room that is lent

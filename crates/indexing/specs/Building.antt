@@ -1,12 +1,22 @@
 -- An index that is built: its head, and every element of the three lent slices afterwards. Beside a refusal the head is noughts and nothing is written.
 -- Assumes nothing.
-use Rattle.std.specs.Prelude.{ℕ, min, cond, List, length, eqb}
+use Rattle.std.specs.Prelude.{ℕ, cond, List, Result, Ok, Err, length, eqb}
+use Rattle.octets.specs.declared.refusals.Refusal.{Refusal}
+use Rattle.octets.specs.Refusals.{number_of}
 use Rattle.session.specs.declared.Session.{Session}
 use Rattle.indexing.specs.declared.IndexHead.{IndexHead}
-use Rattle.indexing.specs.declared.Begun.{Begun}
-use Rattle.indexing.specs.declared.Built.{Built}
 use Rattle.indexing.specs.Filling.{begun_of, note_all, fill_all}
 use Rattle.indexing.specs.Asking.{room_of}
+
+-- what building says: 0, 19 or 13, and the head, which is noughts beside a refusal
+pub record Built : Type 0 where
+  pub head : IndexHead
+  pub answer : ℕ
+
+-- as the code says it
+abbrev pub built_in : Result IndexHead Refusal → Built
+built_in (Ok h) = record { head = h; answer = 0 }
+built_in (Err r) = record { head = record { length = 0; label = 0; count = 0 }; answer = number_of r }
 
 pub record Index : Type 0 where
   pub built : Built
@@ -28,18 +38,3 @@ build_of log l clocks places records =
       places = (note_all clocks places b.filling log).places;
       records = (fill_all records b.filling log).row;
     }
-
--- what the code does: the numbers first
-pub record Numbered : Type 0 where
-  pub begun : Begun
-  pub clocks : List ℕ
-  pub places : List ℕ
-
-unfoldable pub numbered_of : List ℕ → ℕ → List ℕ → List ℕ → ℕ → Numbered
-numbered_of log l clocks places records =
-    let b = begun_of log l (room_of (length clocks) (length places) records) in
-    record { begun = b; clocks = (note_all clocks places b.filling log).clocks; places = (note_all clocks places b.filling log).places }
-
--- there are at most 256 entries
-abbrev pub built_by : Begun → ℕ → Built
-built_by b size = record { head = head_by b.answer size b.filling.label (min b.filling.count 256); answer = b.answer }

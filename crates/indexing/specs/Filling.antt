@@ -1,14 +1,15 @@
 -- The records of an index filled in, entry by entry: what the code does.
 -- Assumes nothing.
-use Rattle.std.specs.Prelude.{ℕ, zero, suc, ◌+◌, ◌-◌, ◌/◌, Bool, cond, List, length, drop, set, eqb, ltb}
+use Rattle.std.specs.Prelude.{ℕ, zero, suc, ◌+◌, ◌-◌, ◌/◌, Bool, cond, List, Result, Ok, Err, length, drop, set, eqb, ltb}
+use Rattle.octets.specs.declared.refusals.Refusal.{Refusal}
 use Rattle.octets.specs.Choice.{bar, or_else}
+use Rattle.octets.specs.Refusals.{number_of}
 use Rattle.session.specs.declared.Session.{Session}
 use Rattle.table.specs.Table.{absent}
 use Rattle.call_log.specs.declared.Ended.{Ended}
 use Rattle.call_log.specs.Reading.{read_to, never, at_start, count_of}
 use Rattle.walks.specs.AtPlace.{Afterwards, at_place}
 use Rattle.indexing.specs.declared.Filling.{Filling}
-use Rattle.indexing.specs.declared.Begun.{Begun}
 
 -- the entry that is to be filled in, and whether there is one
 abbrev pub entry_at : Filling → ℕ
@@ -61,6 +62,16 @@ build_answer log room = or_else (count_of log).answer (bar (ltb room (entries_of
 -- before the first entry; of a log that is refused there is none
 abbrev pub filling_from : ℕ → ℕ → Filling
 filling_from label count = record { point = at_start; place = 8; at = 0; count = count; label = label }
+
+-- what building answers, 0, 19 or 13, and where it begins: beside a refusal there is no entry
+pub record Begun : Type 0 where
+  pub filling : Filling
+  pub answer : ℕ
+
+-- as the code says it of a label
+abbrev pub begun_in : ℕ → Result Filling Refusal → Begun
+begun_in label (Ok x) = record { filling = x; answer = 0 }
+begun_in label (Err r) = record { filling = filling_from label 0; answer = number_of r }
 
 unfoldable pub begun_of : List ℕ → ℕ → ℕ → Begun
 begun_of log label room =

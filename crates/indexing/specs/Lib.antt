@@ -1,4 +1,4 @@
 pub mod Filling
 pub mod Asking
-pub mod Looking
+pub mod Judging
 pub mod Building

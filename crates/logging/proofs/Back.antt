@@ -4,14 +4,13 @@ use Prim.Native.Nat.{ℕ, ◌+◌, ◌*◌, ◌/◌, ◌%◌, ◌^◌, ◌≤◌
 use native.Mathlib.Omega.{arith}
 use mathlib.Core.Path.{◌≡◌, refl, sym, ap, ◌∙◌}
 use mathlib.Core.Logic.{◌⊎◌, inl, inr}
-use mathlib.Core.Bool.{Bool, true, false, not, cond, ◌&&◌, ◌||◌}
+use mathlib.Core.Bool.{true, false, not, cond, ◌&&◌, ◌||◌}
 use mathlib.Core.List.{List, [], ◌∷◌, ◌++◌}
-use lib.ListN.{length, get_or, take, drop, length-append}
+use lib.ListN.{length, get_or, take, length-append}
 use lib.Seq.{take-append_seam}
 use lib.Dec.{eqb, ltb, leb}
 use borrow.Author.Tests.{eqb-true, ltb-true, leb-true, le-leb, lt-ltb, not-true}
 use Rattle.octets.specs.Numbers.{number_at, octets_of}
-use Rattle.octets.specs.Choice.{need}
 use Rattle.octets.proofs.Numbers.{read_of}
 use Rattle.octets.proofs.Chain.{and_both, need-passed}
 use Rattle.cv.specs.declared.MepId.{MepId}
@@ -21,7 +20,7 @@ use Rattle.rules.specs.Calls.{Call, Open}
 use Rattle.rules.proofs.Bools.{or_cases, both_true}
 use Rattle.capture.specs.declared.Record.{Record}
 use Rattle.capture.specs.Records.{record_in, body_fits, settings_in, call_of}
-use Rattle.call_log.specs.Records.{Logged as LogRecord, logged_in, header_fits, is_whole, whole_of, answer_in, body_in}
+use Rattle.call_log.specs.Records.{logged_in, header_fits, is_whole, whole_of, answer_in, body_in}
 use Rattle.logging.specs.declared.Logged.{Logged}
 use Rattle.logging.specs.Logging.{header_octets, head_octets, call_fits, call_refusal, call_octets, is_plain, settings_held, mep_octets, body_octets, opening_of, open_refusal, open_octets}
 

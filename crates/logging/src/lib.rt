@@ -6,22 +6,24 @@ mod calls;
 mod openings;
 
 ghost use Rattle.std.specs.Prelude.{◌≡◌};
+ghost use Rattle.octets.specs.Refusals.{refusal_in};
 ghost use Rattle.octets.specs.Writing.{writing};
 ghost use Rattle.logging.specs.Logging.{header_octets};
 
 pub use calls::write_call;
+use octets::Refusal;
 pub use openings::write_open;
 
 // The eight octets before the first record.
-pub fn write_header(b: &mut [u8]) -> u32
-    ensures { record { answer = result; buffer = b.new } ≡ writing 0 header_octets b.old }
+pub fn write_header(b: &mut [u8]) -> Result<(), Refusal>
+    ensures { record { answer = refusal_in result; buffer = b.new } ≡ writing 0 header_octets b.old }
 {
-    let o = [84u8, 80, 76, 0, 1, 0, 0, 0];
-    octets::write_octets(b, 0, &o)
+    calls::write_both(b, b"TPL\0\x01\0\0\0", &[])
 }
 
 // What was called on which label at which reading, by the kinds of a capture, and what it was answered.
-// Where a call has no label or brings no reading, the number is not read.
+// Where a call has no label or brings no reading, the number is not read. Kind and answer are numbers,
+// and no enums: C lends the record, and the definitions `call_fits` and `head_octets` take any 16 bits.
 #[repr(C)]
 #[derive(Clone, Copy)]
 pub struct Logged {

@@ -15,57 +15,47 @@ fn received_by(s: Session, m: &[u8], reading: u64) -> Session
     ensures { result ≡ received_record s m.now reading }
 {
     if session::is_fault(m) {
-        let f = session::fault_act(s, m, reading);
-        return session::with_fault(s, f);
+        session::with_fault(s, session::fault_act(s, m, reading))
+    } else {
+        session::with_live(s, session::bfd_act(s, m, reading))
     }
-    let a = session::bfd_act(s, m, reading);
-    session::with_live(s, a)
 }
 
 // An act on an open session, by its kind.
+#[tactic(auto, unfolding(crate::specs::Records::effect_by))]
 fn effect_by(s: Session, r: Record, body: &[u8]) -> Session
     ensures { result ≡ effect_by s r body.now }
 {
-    if r.kind == 3 {
-        return session::locked_at(s, r.time);
+    match r.kind {
+        3 => session::locked_at(s, r.time),
+        4 => session::unlocked_at(s, r.time),
+        5 => received_by(s, body, r.time),
+        7 => session::cc_written(s),
+        _ => s,
     }
-    if r.kind == 4 {
-        return session::unlocked_at(s, r.time);
-    }
-    if r.kind == 5 {
-        return received_by(s, body, r.time);
-    }
-    if r.kind == 7 {
-        return session::cc_written(s);
-    }
-    s
 }
 
 // A record of the label, no tick.
+#[tactic(auto, unfolding(crate::specs::Records::own_by))]
 fn own_by(s: Session, r: Record, body: &[u8]) -> Session
     ensures { result ≡ own_by s r body.now }
 {
-    if r.kind == 1 {
-        return session::opened_at(settings_in(r.label, body), r.time);
+    match r.kind {
+        1 => session::opened_at(settings_in(r.label, body), r.time),
+        2 => absent(),
+        _ if s.settings.label == 0 => s,
+        _ => effect_by(s, r, body),
     }
-    if r.kind == 2 {
-        return absent();
-    }
-    if s.settings.label == 0 {
-        return s;
-    }
-    effect_by(s, r, body)
 }
 
 // What an accepted record of a log makes of the record of a label.
+#[tactic(auto, unfolding(crate::specs::Records::record_after))]
 pub fn record_after(r: Record, body: &[u8], label: u32, s: Session) -> Session
     ensures { result ≡ record_after r body.now label s }
 {
-    if r.kind == 0 {
-        return s;
+    if r.kind != 0 && r.label == label {
+        own_by(s, r, body)
+    } else {
+        s
     }
-    if r.label == label {
-        return own_by(s, r, body);
-    }
-    s
 }

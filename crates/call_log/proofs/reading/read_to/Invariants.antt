@@ -1,8 +1,5 @@
-use mathlib.Core.Path.{◌≡◌, refl, sym, ◌∙◌}
-use native.Mathlib.Omega.{arith}
-use borrow.Author.Rules.{rules}
+use mathlib.Core.Path.{◌≡◌}
 use Rattle.call_log.specs.Reading.{read_to}
-use Rattle.call_log.proofs.Turns.{more_left, more-size, stops, again}
 use Rattle.call_log.proofs.reading.read_to.Given as goal
 
 abbrev pub invariant-loop-point : goal.invariant-loop-point

@@ -1,4 +1,3 @@
-use borrow.Author.Rules.{rules}
 use native.Mathlib.Omega.{arith}
 use Prim.Native.Nat.{◌/◌}
 use mathlib.Core.Path.{ap, sym, ◌∙◌}
@@ -10,7 +9,7 @@ pub returns-then-n-lt10000000000 : goal.returns-then-n-lt10000000000
 returns-then-n-lt10000000000 c = c.few_digits.ensures ∙ sym (ap length (digits-enough 9 10 c.args.n c.if-n-lt10000000000.true))
 
 pub overflow_add-result : goal.overflow_add-result
-overflow_add-result c = omega (arith, c.few_digits-2.ensures, digits-short 10 (c.args.n / 10000000000))
+overflow_add-result c = omega (arith, c.few_digits-else-n-lt10000000000.ensures, digits-short 10 (c.args.n / 10000000000))
 
-pub returns : goal.returns
-returns c = rw c.few_digits-2.ensures (sym (quotient-count 10 10 c.args.n c.if-n-lt10000000000.false))
+pub returns-else-n-lt10000000000 : goal.returns-else-n-lt10000000000
+returns-else-n-lt10000000000 c = rw c.few_digits-else-n-lt10000000000.ensures (sym (quotient-count 10 10 c.args.n c.if-n-lt10000000000.false))

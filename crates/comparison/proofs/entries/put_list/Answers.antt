@@ -1,9 +1,6 @@
-use borrow.Author.Rules.{rules}
 use mathlib.Core.Path.{sym, ◌∙◌}
-use Prim.Native.Nat.{◌+◌}
 use native.Mathlib.Omega.{arith}
-use lib.ListN.{length}
-use Rattle.comparison.proofs.Going.{Going, begins, fit, falls, more, ended}
+use Rattle.comparison.proofs.Going.{begins, fit, falls, more, ended}
 use Rattle.comparison.proofs.entries.put_list.Goals as goal
 
 pub loop-s-init : goal.loop-s-init
@@ -17,13 +14,13 @@ overflow_add-n c = omega (arith, (fit c.loop-s.invariant (omega (arith, c.well_f
 
 pub loop-s-smaller : goal.loop-s-smaller
 loop-s-smaller c =
-    falls c.loop-s.invariant (sym c.any_stands.ensures ∙ c.loop-s-test.true) c.step_of-a.result c.step_of-b.result c.step_of-a.ensures.0
-    c.step_of-b.ensures.0
+    falls c.loop-s.invariant (sym c.any_stands.ensures ∙ c.loop-s-test.true) c.step_of.result c.step_of-in-loop-s.result c.step_of.ensures.0
+    c.step_of-in-loop-s.ensures.0
 
 pub loop-s-preserved : goal.loop-s-preserved
 loop-s-preserved c =
     more c.loop-s.invariant (sym c.any_stands.ensures ∙ c.loop-s-test.true) c.marks_of.result c.marks_of.ensures _ _ c.put_marks-count.ensures
-    c.step_of-a.result c.step_of-b.result c.step_of-a.ensures.0 c.step_of-b.ensures.0
+    c.step_of.result c.step_of-in-loop-s.result c.step_of.ensures.0 c.step_of-in-loop-s.ensures.0
 
 pub shape_of-list : goal.shape_of-list
 shape_of-list c = c.loop-s.invariant.same

@@ -1,9 +1,6 @@
-use borrow.Author.Rules.{rules}
-use mathlib.Core.Path.{sym, ◌∙◌}
 use Prim.Native.Nat.{◌+◌}
-use native.Mathlib.Omega.{arith}
 use lib.ListN.{length}
-use Rattle.comparison.proofs.Going.{Going, begins, fit, falls, more, ended}
+use Rattle.comparison.proofs.Going.{Going}
 use Rattle.comparison.proofs.entries.put_list.Given as goal
 
 abbrev pub invariant-loop-s : goal.invariant-loop-s

@@ -1,10 +1,7 @@
-use borrow.Author.Rules.{rules}
 use mathlib.Core.Path.{sym, ap, ◌∙◌}
-use Prim.Native.Nat.{◌-◌}
 use native.Mathlib.Omega.{arith}
-use lib.ListN.{length}
 use Rattle.comparison.specs.Walk.{step_of}
-use Rattle.comparison.proofs.Whole.{Agreed, agreed-first, agreed-step, agreed-more, agreed-all}
+use Rattle.comparison.proofs.Whole.{agreed-first, agreed-step, agreed-more, agreed-all}
 use Rattle.comparison.proofs.remaining.agreeing_octets.Goals as goal
 
 pub loop-at-init : goal.loop-at-init

@@ -1,7 +1,5 @@
-use borrow.Author.Rules.{rules}
 use Rattle.capture.specs.Typing.{Put, typed}
-use Rattle.capture.proofs.Typing.{then, typed-none}
-use borrow.Author.Tests.{not-true, not-false}
+use Rattle.capture.proofs.Typing.{typed-none}
 use mathlib.Core.Path.{sym, ap, ◌∙◌}
 use mathlib.Core.Bool.{Bool}
 use Rattle.comparison.specs.Words.{mark_line}
@@ -11,9 +9,3 @@ pub returns-then-not-test : goal.returns-then-not-test
 returns-then-not-test c = let s = c.args in
     let p : Put = record { buffer = s.out.now; at = s.at } in
     typed-none p ∙ ap (λ (b : Bool). typed p (mark_line s.n b s.code)) (sym c.if-not-test.true)
-
-pub returns : goal.returns
-returns c = let s = c.args in
-    let p : Put = record { buffer = s.out.now; at = s.at } in
-    then p _ _ c.put_decimal-next.ensures c.put_code.ensures
-    ∙ ap (λ (b : Bool). typed p (mark_line s.n b s.code)) (sym c.if-not-test.false)

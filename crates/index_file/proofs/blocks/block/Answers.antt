@@ -2,11 +2,10 @@ use mathlib.Core.Path.{ap, ◌∙◌}
 use lib.ListN.{length}
 use lib.Seq.{sets}
 use native.Mathlib.Omega.{arith}
-use borrow.Author.Rules.{rules}
 use Rattle.call_log.specs.declared.Ended.{Ended}
 use Rattle.call_log.specs.Reading.{never}
 use Rattle.call_log.proofs.Turns.{left-most}
-use Rattle.index_file.specs.Blocks.{after_block, block_of}
+use Rattle.index_file.specs.Blocks.{indexing_of, after_block, block_of}
 use Rattle.index_file.proofs.blocks.block.Goals as goal
 
 pub after_block-requires : goal.after_block-requires
@@ -17,5 +16,5 @@ pub returns : goal.returns
 unfolding block_of
 returns c = let a = c.args in
     let out = c.put_octets.ensures ∙ (λ i. sets a.out.now (c.place_of.ensures i) (c.entry_octets-o.ensures i)) in
-    let indexing = c.after_block.ensures ∙ ap (λ (e : Ended). after_block a.x e (length a.window.now)) c.read_to-e.ensures in
+    let indexing = c.after_block.ensures ∙ ap (λ (e : Ended). after_block (indexing_of a.x) e (length a.window.now)) c.read_to-e.ensures in
     λ i. record { indexing = indexing i; out = out i }

@@ -1,9 +1,7 @@
-use Prim.Native.Nat.{◌-◌}
 use native.Mathlib.Omega.{arith}
 use mathlib.Core.Path.{refl}
-use borrow.Author.Rules.{rules}
 use Rattle.index_file.specs.Files.{clock_at}
-use Rattle.index_file.proofs.Lists.{Filled, filled_none, filled_more, filled-all}
+use Rattle.index_file.proofs.Lists.{filled_none, filled_more, filled-all}
 use Rattle.index_file.proofs.seeking.clocks_in.Goals as goal
 
 pub loop-k-init : goal.loop-k-init

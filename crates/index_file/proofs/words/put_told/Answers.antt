@@ -1,4 +1,3 @@
-use borrow.Author.Rules.{rules}
 use Rattle.capture.specs.Typing.{Put}
 use Rattle.capture.proofs.Typing.{then}
 use Rattle.index_file.specs.Words.{told_line}

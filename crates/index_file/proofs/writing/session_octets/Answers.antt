@@ -1,4 +1,3 @@
-use borrow.Author.Rules.{rules}
 use Rattle.index_file.proofs.writing.session_octets.Goals as goal
 
 pub returns : goal.returns

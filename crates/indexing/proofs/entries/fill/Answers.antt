@@ -5,12 +5,12 @@ use Rattle.indexing.proofs.entries.fill.Goals as goal
 pub loop-records-smaller : goal.loop-records-smaller
 loop-records-smaller c =
     let l = c.loop-records in
-    (turned c.args.log.now l.records c.fill_one-next.new.records l.x c.fill_one-next.result (sym c.is_unfilled.ensures ∙ c.loop-records-test.true) c.fill_one-next.ensures).1
+    (turned c.args.log.now l.records c.fill_one-x.new.records l.x c.fill_one-x.result (sym c.is_unfilled.ensures ∙ c.loop-records-test.true) c.fill_one-x.ensures).1
 
 pub loop-records-preserved : goal.loop-records-preserved
 loop-records-preserved c =
     let l = c.loop-records in
-    (turned c.args.log.now l.records c.fill_one-next.new.records l.x c.fill_one-next.result (sym c.is_unfilled.ensures ∙ c.loop-records-test.true) c.fill_one-next.ensures).0
+    (turned c.args.log.now l.records c.fill_one-x.new.records l.x c.fill_one-x.result (sym c.is_unfilled.ensures ∙ c.loop-records-test.true) c.fill_one-x.ensures).0
     ∙ l.invariant
 
 pub returns : goal.returns

@@ -2,7 +2,6 @@ use Prim.Native.Nat.{◌-◌}
 use native.Mathlib.Omega.{arith}
 use mathlib.Core.Path.{ap, ◌∙◌}
 use lib.ListN.{length, length-drop}
-use borrow.Author.Rules.{rules}
 use Rattle.call_log.specs.declared.Ended.{Ended}
 use Rattle.call_log.specs.Reading.{read_to, never}
 use Rattle.call_log.proofs.Turns.{left-most}
@@ -10,7 +9,7 @@ use Rattle.indexing.proofs.entries.next_entry.Goals as goal
 
 pub overflow_sub-result : goal.overflow_sub-result
 overflow_sub-result c = let a = c.args in
-    let rest = c.from_place in
+    let rest = c.from_place-rest in
     omega (
       arith,
       ap (λ (e : Ended). e.left) c.read_to-e.ensures,
@@ -21,5 +20,5 @@ overflow_sub-result c = let a = c.args in
 
 pub returns : goal.returns
 returns c = let a = c.args in
-    let e = c.read_to-e.ensures ∙ (λ i. read_to (c.reads_for.ensures i) a.x.label never (c.from_place.ensures i) a.x.point) in
+    let e = c.read_to-e.ensures ∙ (λ i. read_to (c.reads_for.ensures i) a.x.label never (c.from_place-rest.ensures i) a.x.point) in
     λ i. record { point = (e i).point; place = length a.log.now - (e i).left; at = c.onward.ensures i; count = a.x.count; label = a.x.label }

@@ -1,5 +1,0 @@
-use borrow.Author.Rules.{rules}
-use Rattle.index_file.proofs.writing.settings_octets.Goals as goal
-
-pub returns : goal.returns
-returns c = rw (c.put_u8-3.ensures, c.put_u8-2.ensures, c.put_u8.ensures, c.put_u32-3.ensures, c.put_u32-2.ensures, c.put_u32.ensures, c.put_octets-2.ensures, c.put_octets.ensures, c.mep_octets-expected.ensures, c.mep_octets-own.ensures)

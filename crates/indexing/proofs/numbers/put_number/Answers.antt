@@ -1,7 +1,0 @@
-use borrow.Author.Rules.{rules}
-use mathlib.Core.Path.{sym}
-use lib.Seq.{set_out}
-use Rattle.indexing.proofs.numbers.put_number.Goals as goal
-
-pub returns-else-at-s : goal.returns-else-at-s
-returns-else-at-s c = sym (set_out _ _ _ c.if-at-s.false)
