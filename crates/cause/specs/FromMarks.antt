@@ -15,14 +15,7 @@ use Rattle.cause.specs.declared.Cause.{Cause}
 use Rattle.cause.specs.declared.Thing.{Thing}
 use Rattle.cause.specs.declared.Thing.TheVariants.{Crossing, Loss, Condition as OfKey, HeldBack}
 use Rattle.cause.specs.declared.Marks.{Marks}
-use Rattle.cause.specs.declared.WhyAnswer.{WhyAnswer}
-use Rattle.cause.specs.declared.WhyAnswer.TheVariants.{Because, Refused}
 use Rattle.cause.specs.declared.answer.Candidate.{Candidate}
-
--- the rules paper's side of an answer
-abbrev pub said : WhyAnswer → Answer Cause
-said (Because c) = accepted c
-said (Refused n) = refused n
 
 -- a date so much later; it stays at the greatest number, which no date of a table in order comes near
 abbrev pub later_by : ℕ → ℕ → ℕ

@@ -9,9 +9,9 @@ use Rattle.cv.specs.declared.MepId.{MepId}
 use Rattle.cv.specs.MepId.{no_agi}
 use Rattle.cv.specs.Cv.{cv_octets}
 use Rattle.fault.specs.declared.Fault.{Fault}
-use Rattle.fault.specs.declared.IfId.{IfId}
-use Rattle.fault.specs.declared.IfId.TheVariants.{Absent as NoIfId, Present as AnIfId}
-use Rattle.fault.specs.declared.GlobalId.TheVariants.{Absent as NoGlobalId, Present as AGlobalId}
+use Rattle.fault.specs.Identifiers.{OptionalIfId}
+use Rattle.fault.specs.Identifiers.{NoIfId, AnIfId}
+use Rattle.fault.specs.Identifiers.{NoGlobalId, AGlobalId}
 use Rattle.fault.specs.Octets.{fault_octets}
 use Rattle.rules.specs.declared.Settings.{Settings}
 use Rattle.rules.specs.Conditions.{key_with}
@@ -82,7 +82,7 @@ cc multiplier your t = On 100 (Receive (cc_octets (packet multiplier your)) t)
 abbrev cv : ℕ → Call
 cv t = On 100 (Receive (cv_octets (packet 3 0) (mep 2)) t)
 
-abbrev ais : ℕ → IfId → Fault
+abbrev ais : ℕ → OptionalIfId → Fault
 ais refresh interface = record { kind = 1; linkdown = false; removed = false; refresh = refresh; interface = interface; global = NoGlobalId }
 
 abbrev lkr : ℕ → Fault

@@ -3,15 +3,17 @@ ghost use Rattle.std.specs.Prelude.{◌≡◌, suc, ◌-◌};
 ghost use Rattle.rules.specs.Times.{crossing_time, detection_time};
 ghost use Rattle.session.specs.Queries.{crossing_at, loss_at};
 ghost use Rattle.conditions.specs.Standing.{place_stands};
-ghost use Rattle.cause.specs.FromMarks.{said, later_by, candidate, ends_before, later_of, best_four, best_of, because, because_of, stands_as, cause_from};
+ghost use Rattle.octets.specs.Refusals.{answer_in};
+ghost use Rattle.cause.specs.FromMarks.{later_by, candidate, ends_before, later_of, best_four, best_of, because, because_of, stands_as, cause_from};
 
-use crate::{Cause, Marks, Thing, WhyAnswer};
+use crate::{Cause, Marks, Thing};
 use conditions::{Condition, Conditions};
-use octets::both;
+use octets::Refusal;
 use rules::Key;
 use session::Session;
 
-// A place as a candidate: whether it is one, its record number, its condition and its end.
+// A place as a candidate: whether it is one, its record number, its condition and its end. The mark stands beside them, no
+// Option: what is said of the place that is named (`words_from`) is read of it whether it stands or not.
 #[derive(Clone, Copy)]
 pub struct Candidate {
     pub place: Condition,
@@ -23,43 +25,36 @@ pub struct Candidate {
 fn later_by(at: u64, time: u64) -> u64
     ensures { result ≡ later_by at time }
 {
-    if u64::MAX - at < time {
-        return u64::MAX;
-    }
-    at + time
+    at.saturating_add(time)
 }
 
 fn age_at(now: u64, at: u64) -> u64
     ensures { result ≡ now - at }
 {
-    if now < at {
-        return 0;
-    }
-    now - at
+    now.saturating_sub(at)
 }
 
-fn answer_if(test: bool, now: u64, number: u64, at: u64, end: u64) -> WhyAnswer
-    ensures { said result ≡ because test now number at end }
+fn answer_if(test: bool, now: u64, number: u64, at: u64, end: u64) -> Result<Cause, Refusal>
+    ensures { answer_in result ≡ because test now number at end }
 {
-    if test {
-        return WhyAnswer::Because(Cause {
-            number: number,
-            reading: at,
-            age: age_at(now, at),
-            end: end,
-        });
+    if !test {
+        return Err(Refusal::NotStanding);
     }
-    WhyAnswer::Refused(15)
+    Ok(Cause {
+        number,
+        reading: at,
+        age: age_at(now, at),
+        end,
+    })
 }
 
 fn as_candidate(test: bool, c: Condition, number: u64) -> Candidate
     ensures { result ≡ candidate test c number }
 {
-    let end = later_by(c.at, rules::lifetime_of(c.refresh));
     Candidate {
         place: c,
-        number: number,
-        end: end,
+        number,
+        end: later_by(c.at, rules::lifetime_of(c.refresh)),
         stands: test,
     }
 }
@@ -67,10 +62,7 @@ fn as_candidate(test: bool, c: Condition, number: u64) -> Candidate
 fn ends_before(j: Candidate, k: Candidate) -> bool
     ensures { result ≡ ends_before j k }
 {
-    if j.end < k.end {
-        return true;
-    }
-    both(j.end == k.end, j.number < k.number)
+    j.end < k.end || (j.end == k.end && j.number < k.number)
 }
 
 // Of two the one that ends last, of equal ends the greater number; one that is none yields.
@@ -83,10 +75,7 @@ fn later_of(j: Candidate, k: Candidate) -> Candidate
     if !k.stands {
         return j;
     }
-    if ends_before(j, k) {
-        return k;
-    }
-    j
+    if ends_before(j, k) { k } else { j }
 }
 
 fn best_of(a: bool, b: bool, c: bool, d: bool, cs: Conditions, m: Marks) -> Candidate
@@ -99,8 +88,8 @@ fn best_of(a: bool, b: bool, c: bool, d: bool, cs: Conditions, m: Marks) -> Cand
     later_of(first, later_of(second, later_of(third, fourth)))
 }
 
-fn because_of(now: u64, c: Candidate) -> WhyAnswer
-    ensures { said result ≡ because_of now c }
+fn because_of(now: u64, c: Candidate) -> Result<Cause, Refusal>
+    ensures { answer_in result ≡ because_of now c }
 {
     answer_if(c.stands, now, c.number, c.place.at, c.end)
 }
@@ -108,8 +97,7 @@ fn because_of(now: u64, c: Candidate) -> WhyAnswer
 fn stands_as(c: Condition, key: Key, now: u64) -> bool
     ensures { result ≡ stands_as key now c }
 {
-    let own = c.key;
-    both(conditions::does_stand(c, now), rules::same_key(own, key))
+    conditions::does_stand(c, now) && rules::same_key(c.key, key)
 }
 
 // The place of the condition of a key.
@@ -124,6 +112,7 @@ pub fn best_of_key(m: Marks, cs: Conditions, now: u64, key: Key) -> Candidate
 }
 
 // The place of the condition that ends last.
+#[tactic(auto, unfolding(conditions::specs::Standing::place_stands))]
 pub fn best_standing(m: Marks, cs: Conditions, now: u64) -> Candidate
     ensures { result ≡ best_of (λ c. place_stands c now) cs m }
 {
@@ -134,8 +123,9 @@ pub fn best_standing(m: Marks, cs: Conditions, now: u64) -> Candidate
     best_of(a, b, c, d, cs, m)
 }
 
-fn crossing_from(m: Marks, r: Session, now: u64) -> WhyAnswer
-    ensures { said result ≡ because (crossing_at r now) now m.crossed r.crossed (later_by r.crossed crossing_time) }
+#[tactic(auto, unfolding(session::specs::Queries::crossing_at))]
+fn crossing_from(m: Marks, r: Session, now: u64) -> Result<Cause, Refusal>
+    ensures { answer_in result ≡ because (crossing_at r now) now m.crossed r.crossed (later_by r.crossed crossing_time) }
 {
     let end = later_by(r.crossed, 3_500_000);
     answer_if(session::crossing_at(r, now), now, m.crossed, r.crossed, end)
@@ -148,8 +138,9 @@ fn loss_time(period: u32, multiplier: u8) -> u64
     rules::detection_time(period, multiplier) + 1
 }
 
-fn loss_from(m: Marks, r: Session, now: u64) -> WhyAnswer
-    ensures { said result ≡ because (loss_at r now) now m.timed r.timed (later_by r.timed (suc (detection_time r.settings.period r.peer.multiplier))) }
+#[tactic(auto, unfolding(session::specs::Queries::loss_at))]
+fn loss_from(m: Marks, r: Session, now: u64) -> Result<Cause, Refusal>
+    ensures { answer_in result ≡ because (loss_at r now) now m.timed r.timed (later_by r.timed (suc (detection_time r.settings.period r.peer.multiplier))) }
 {
     let time = loss_time(r.settings.period, r.peer.multiplier);
     let end = later_by(r.timed, time);
@@ -157,8 +148,9 @@ fn loss_from(m: Marks, r: Session, now: u64) -> WhyAnswer
 }
 
 // Of a session's record at a clock, with the marks that were kept beside it.
-pub fn cause_from(m: Marks, r: Session, now: u64, thing: Thing) -> WhyAnswer
-    ensures { said result ≡ cause_from m r now thing }
+#[tactic(auto, unfolding(crate::specs::FromMarks::cause_from))]
+pub fn cause_from(m: Marks, r: Session, now: u64, thing: Thing) -> Result<Cause, Refusal>
+    ensures { answer_in result ≡ cause_from m r now thing }
 {
     let cs = r.conditions;
     match thing {
@@ -169,7 +161,7 @@ pub fn cause_from(m: Marks, r: Session, now: u64, thing: Thing) -> WhyAnswer
             if session::loss_at(r, now) {
                 return because_of(now, best_standing(m, cs, now));
             }
-            WhyAnswer::Refused(15)
+            Err(Refusal::NotStanding)
         }
     }
 }

@@ -23,7 +23,7 @@ pub enum Thing {
 // The number of the record that accounts for it, that record's reading and its age at the clock, and
 // the end: the first reading at which the thing no longer stands, of a loss the first at which it
 // stood.
-#[derive(Clone, Copy)]
+#[derive(Clone, Copy, Debug, PartialEq, Eq)]
 pub struct Cause {
     pub number: u64,
     pub reading: u64,
@@ -31,15 +31,8 @@ pub struct Cause {
     pub end: u64,
 }
 
-// The cause, or the refusal's number.
-#[derive(Clone, Copy)]
-pub enum WhyAnswer {
-    Because(Cause),
-    Refused(u32),
-}
-
 // What the detection time is timed from.
-#[derive(Clone, Copy)]
+#[derive(Clone, Copy, Debug, PartialEq, Eq)]
 pub enum Timed {
     Opening,
     Unlock,
@@ -48,7 +41,8 @@ pub enum Timed {
 }
 
 // The record numbers of a session's marks, 0 where there is none; the octets of its last crossed
-// message; and by what it was timed: 0 opening, 1 unlock, 2 CC, 3 CV.
+// message; and by what it was timed: 0 opening, 1 unlock, 2 CC, 3 CV. Numbers, and no Options or enums: the definitions of
+// `FromMarks` and `record_noted` speak of each of them, a noting of a record that is no message among them.
 #[derive(Clone, Copy)]
 pub struct Marks {
     pub timed: u64,
@@ -61,7 +55,8 @@ pub struct Marks {
     pub by: u8,
 }
 
-// What a record notes, and whether it is a crossed message, whose octets are to be kept.
+// What a record notes, and whether it is a crossed message, whose octets are to be kept. A mark and no Option: the marks
+// stand either way.
 #[derive(Clone, Copy)]
 pub struct Noted {
     pub marks: Marks,

@@ -39,10 +39,7 @@ pub fn anew(number: u64) -> Marks
 pub fn marks_if(test: bool, noted: Marks, marks: Marks) -> Marks
     ensures { result ≡ cond test noted marks }
 {
-    if test {
-        return noted;
-    }
-    marks
+    if test { noted } else { marks }
 }
 
 fn marks_only(m: Marks) -> Noted
@@ -74,39 +71,36 @@ fn crossed_by(m: Marks, number: u64, size: usize) -> Marks
     next
 }
 
+#[tactic(auto, unfolding(rules::specs::Conditions::same_key))]
 fn number_at(c: Condition, key: Key, number: u64, old: u64) -> u64
     ensures { result ≡ cond (same_key c.key key) number old }
 {
-    let own = c.key;
-    if rules::same_key(own, key) {
-        return number;
+    if rules::same_key(c.key, key) {
+        number
+    } else {
+        old
     }
-    old
 }
 
 // A fault message: the place that has its key afterwards, none where R is set.
 fn placed_by(m: Marks, after: Conditions, key: Key, number: u64) -> Marks
     ensures { result ≡ placed_by m after key number }
 {
-    let first = after.first;
-    let second = after.second;
-    let third = after.third;
-    let fourth = after.fourth;
-    let mut next = m;
-    next.first = number_at(first, key, number, m.first);
-    next.second = number_at(second, key, number, m.second);
-    next.third = number_at(third, key, number, m.third);
-    next.fourth = number_at(fourth, key, number, m.fourth);
-    next
+    Marks {
+        first: number_at(after.first, key, number, m.first),
+        second: number_at(after.second, key, number, m.second),
+        third: number_at(after.third, key, number, m.third),
+        fourth: number_at(after.fourth, key, number, m.fourth),
+        ..m
+    }
 }
 
+#[tactic(auto, unfolding(conditions::specs::Taking::taken_in, fault::specs::Message::fault_of))]
 fn fault_noted(m: Marks, number: u64, before: Session, reading: u64, body: &[u8]) -> Noted
     ensures { result ≡ marks_only (placed_by m (taken_in before.conditions (fault_of body.now) reading) (key_of (fault_of body.now)) number) }
 {
     let f = fault::fault_fields(body);
-    let places = before.conditions;
-    let v = conditions::take_fault(places, f, reading);
-    let after = v.places;
+    let after = conditions::take_fault(before.conditions, f, reading).places;
     marks_only(placed_by(m, after, rules::key_of(f), number))
 }
 
@@ -125,19 +119,19 @@ fn bfd_noted(m: Marks, number: u64, size: usize, crossed: bool, by: u8) -> Noted
 
 // A message, by its channel, as the readers have it. Of a CC or CV the one field is read that tells
 // whether it is crossed.
+#[tactic(auto, unfolding(message::specs::Message::message_of, rules::specs::Received::received_as))]
 fn message_noted(before: Session, m: Marks, number: u64, reading: u64, body: &[u8]) -> Noted
     ensures { result ≡ message_noted before m number reading (length body.now) (received_as before.settings (message_of body.now)) }
 {
     let channel = get_u16(body, 2);
-    let settings = before.settings;
     let your = get_u32(body, 12);
     if channel == CC_CHANNEL {
-        let crossed = rules::is_foreign(settings.discriminator, your);
+        let crossed = rules::is_foreign(before.settings.discriminator, your);
         return bfd_noted(m, number, body.len(), crossed, 2);
     }
     if channel == CV_CHANNEL {
         let id = cv::mep_id_at(cv::mep_part(body), 0);
-        let crossed = rules::cv_crosses(settings, your, id);
+        let crossed = rules::cv_crosses(before.settings, your, id);
         return bfd_noted(m, number, body.len(), crossed, 3);
     }
     fault_noted(m, number, before, reading, body)
@@ -151,6 +145,7 @@ fn unlock_noted(before: Session, m: Marks, number: u64) -> Marks
 }
 
 // A record of the label, by its kind.
+#[tactic(auto, unfolding(crate::specs::Records::own_noted))]
 fn own_noted(before: Session, m: Marks, number: u64, r: Record, body: &[u8]) -> Noted
     ensures { result ≡ own_noted before m number r body.now }
 {
@@ -167,6 +162,7 @@ fn own_noted(before: Session, m: Marks, number: u64, r: Record, body: &[u8]) -> 
 }
 
 // A record of any label.
+#[tactic(auto, unfolding(crate::specs::Records::record_noted))]
 pub fn note(before: Session, label: u32, m: Marks, number: u64, r: Record, body: &[u8]) -> Noted
     ensures { result ≡ record_noted before label m number r body.now }
 {

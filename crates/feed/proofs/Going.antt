@@ -1,5 +1,5 @@
 -- A loop over the records of an input, as its invariant has it, whatever a turn leaves: some number of turns of the definition is left, and that many are enough for
--- what is left of the input; and where the mark of the row was right it is right still. `feed_known`, `pace_known` and `trace_known` are such loops.
+-- what is left of the input; and where the mark of the row was right it is right still. `feed_known` is such a loop, and so is `watch_known`, of what is carried for one label.
 -- Assumes nothing.
 use mathlib.Core.Path.{◌≡◌, sym, ap, ◌∙◌}
 use mathlib.Core.Bool.{Bool}

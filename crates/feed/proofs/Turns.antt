@@ -1,6 +1,6 @@
 -- The feed's loop with no model: what a test that there is more says, one turn of the definition, and that 26 is asked once.
 -- Assumes nothing.
-use mathlib.Core.Path.{◌≡◌, refl, sym, ap, ◌∙◌}
+use mathlib.Core.Path.{◌≡◌, refl, sym, ap, subst, ◌∙◌}
 use mathlib.Core.Bool.{Bool, true, false, not, cond, ◌&&◌}
 use Prim.Native.Nat.{ℕ, zero, suc, ◌^◌, ◌<◌, ◌≤◌, ◌+◌, ◌-◌}
 use mathlib.Core.List.{List}
@@ -59,24 +59,28 @@ stands : (f : Fed) (input : List ℕ) (room : ℕ) → Holds (more_of f input ro
 unfolding more_of
 stands f input room h = (both (is_whole (next_in (drop f.used input))) (leb longest (room - f.written)) h).0
 
-module _ (f : Fed) (input : List ℕ) (room : ℕ) (h : Holds (more_of f input room)) where
+-- a whole record that stands next
+module _ (f : Fed) (input : List ℕ) (h : Holds (is_whole (next_in (drop f.used input)))) where
   abbrev s : List ℕ
   s = drop f.used input
 
   in-full : ((16 ≤ length s) × (16 + (record_in s).size ≤ length s)) × (size_of (next_in s) ≡ 16 + (record_in s).size)
-  in-full = whole_in s (stands f input room h)
+  in-full = whole_in s h
 
   -- what is read at its place is the record
   pub record-read : record_from s ≡ record_in s
   record-read = rw (le-ltb (length s) 16 in-full.0.0)
 
-  pub more-says : (f.used + 16 ≤ length input) × (16 ≤ size_of (next_in s))
-  more-says = (omega (arith, in-full.0.0, length-drop f.used input), omega (arith, in-full.1))
+  pub whole-says : (f.used + 16 ≤ length input) × (16 ≤ size_of (next_in s))
+  whole-says = (omega (arith, in-full.0.0, length-drop f.used input), omega (arith, in-full.1))
 
   pub behind-is : behind_of (length input) f.used (record_in s).size ≡ f.used + size_of (next_in s)
   behind-is =
       let no : ltb (length input - f.used) (16 + (record_in s).size) ≡ false = le-ltb (length input - f.used) (16 + (record_in s).size) (omega (arith, in-full.0.1, length-drop f.used input)) in
       rw (no, in-full.1)
+
+pub more-says : (f : Fed) (input : List ℕ) (room : ℕ) → Holds (more_of f input room) → (f.used + 16 ≤ length input) × (16 ≤ size_of (next_in (drop f.used input)))
+more-says f input room h = whole-says f input (stands f input room h)
 
 -- ---- the line of an outcome is that of what is said
 never : (t : Bool) → t && false ≡ false
@@ -248,7 +252,7 @@ abbrev pub flow : List Session → Fed → List ℕ → Flow
 flow row f out = record { row = row; fed = f; out = out }
 
 -- how far it is fed, by its parts
-abbrev fed_by : Fed → Head → ℕ → ℕ → Fed
+abbrev pub fed_by : Fed → Head → ℕ → ℕ → Fed
 fed_by f head used written = record { head = head; number = numbered f.number; used = used; written = written }
 
 abbrev put-by : List ℕ → Fed → Table → Call → Put
@@ -265,7 +269,7 @@ turn_by input row f out r e o zs w n g ps a h =
     let c = call_of r (body_at input f r) in
     let same : c ≡ call_next input f = ap (λ (q : Record). call_of q (body_in s q.size)) e in
     let told : line_by (numbered f.number) r.kind o (body_at input f r) ≡ line (numbered f.number) c (answer t c) = line-is (numbered f.number) o n r (body_at input f r) ∙ ap (line (numbered f.number) c) w.0 in
-    let used : behind_of (length input) f.used r.size ≡ f.used + size_of (next_in s) = ap (λ (q : Record). behind_of (length input) f.used q.size) e ∙ behind-is f input (length out) h in
+    let used : behind_of (length input) f.used r.size ≡ f.used + size_of (next_in s) = ap (λ (q : Record). behind_of (length input) f.used q.size) e ∙ behind-is f input (stands f input (length out) h) in
     ap (λ (y : Answered). flow zs y.fed y.out) a
     ∙ ap (λ (l : List ℕ). flow zs (fed_by f o.head (behind_of (length input) f.used r.size) (typed (record { buffer = out; at = f.written }) l).at) (typed (record { buffer = out; at = f.written }) l).buffer) told
     ∙ ap (λ (u : ℕ). flow zs (fed_by f o.head u (put-by out f t c).at) (put-by out f t c).buffer) used
@@ -278,7 +282,7 @@ pub is-turn : (input : List ℕ) (row : List Session) (f : Fed) (out : List ℕ)
     → sound ≡ in_order (table_of row f.head) → Holds (more_of f input (length out)) → length input < 2 ^ 64 → length row < 2 ^ 64 → flow zs g ps ≡ turn_of input (flow row f out)
 is-turn input row f out sound r e o zs called g ps a mark h short long =
     let w = called mark (more-says f input (length out) h).0 short long in
-    turn_by input row f out r (e ∙ record-read f input (length out) h) o zs w.0 w.1 g ps a h
+    turn_by input row f out r (e ∙ record-read f input (stands f input (length out) h)) o zs w.0 w.1 g ps a h
 
 -- octets are taken, whatever is known of the row
 pub turn-takes : (input : List ℕ) (f : Fed) (out : List ℕ) (r : Record) → r ≡ record_from (drop f.used input) → (o : Outcome) (g : Fed) (ps : List ℕ) → record { fed = g; out = ps } ≡ answered out f input r o
@@ -286,8 +290,16 @@ pub turn-takes : (input : List ℕ) (f : Fed) (out : List ℕ) (r : Record) → 
 unfolding answered
 turn-takes input f out r e o g ps a h =
     let s = drop f.used input in
-    let used : g.used ≡ f.used + size_of (next_in s) = ap (λ (y : Answered). y.fed.used) a ∙ ap (λ (q : Record). behind_of (length input) f.used q.size) (e ∙ record-read f input (length out) h) ∙ behind-is f input (length out) h in
+    let used : g.used ≡ f.used + size_of (next_in s) = ap (λ (y : Answered). y.fed.used) a ∙ ap (λ (q : Record). behind_of (length input) f.used q.size) (e ∙ record-read f input (stands f input (length out) h)) ∙ behind-is f input (stands f input (length out) h) in
     omega (arith, used, (more-says f input (length out) h).1)
+
+-- one turn, where a record stands next and there is room for its line
+pub turned : (input : List ℕ) (row : List Session) (f : Fed) (out : List ℕ) (sound : Bool) → more_of f input (length out) ≡ true → length input < 2 ^ 64 → length row < 2 ^ 64
+    → (r : Record) → r ≡ record_from (drop f.used input) → (o : Outcome) (zs : List Session) → Calls row f r input sound o zs → (g : Fed) (ps : List ℕ) → record { fed = g; out = ps } ≡ answered out f input r o
+    → (f.used < g.used) × (sound ≡ in_order (table_of row f.head) → flow zs g ps ≡ turn_of input (flow row f out))
+turned input row f out sound more short long r er o zs called g ps a =
+    let h : Holds (more_of f input (length out)) = subst (λ (t : Bool). Holds t) (sym more) tt in
+    (turn-takes input f out r er o g ps a h, λ mark. is-turn input row f out sound r er o zs called g ps a mark h short long)
 
 -- ---- 26 is asked once: the mark of a row is its mark after a turn
 pub turn-mark : (input : List ℕ) (x : Flow) → in_order (table_of (turn_of input x).row (turn_of input x).fed.head) ≡ in_order (table_of x.row x.fed.head)

@@ -1,2 +1,3 @@
 pub mod Feeding
 pub mod Calling
+pub mod Watching

@@ -1,90 +1,50 @@
 // What is made of a record for its call.
-ghost use Rattle.std.specs.Prelude.{◌≡◌, eqb};
-ghost use Rattle.feed.specs.Calling.{opening_in, seen_with, sought_in, seen_at, body_from, arrival_in, request_in};
+ghost use Rattle.std.specs.Prelude.{◌≡◌};
+ghost use Rattle.table.specs.Table.{in_order};
+ghost use Rattle.step.specs.Stepping.{table_of};
+ghost use Rattle.feed.specs.Calling.{opening_in, sought_in, seen_at, body_from, arrival_in, request_in};
 
 use crate::Fed;
 use capture::{Record, body_at, settings_in};
+use row::scan_row;
 use scan::{Summary, Target};
+use session::Session;
 use step::{Arrival, Opening, Request};
 use table::Head;
 
-// No label and no discriminator: whether the row is in order is all that is asked.
-pub fn nothing_sought() -> Target
-    ensures { result ≡ record { label = 0; discriminator = 0 } }
+// Whether the row is in order. No label and no discriminator is looked for.
+pub fn is_ordered(row: &[Session], head: Head) -> bool
+    ensures { result ≡ in_order (table_of row.now head) }
 {
-    Target {
+    let nothing = Target {
         label: 0,
         discriminator: 0,
-    }
-}
-
-// Whether the row is in order, of what a scan saw.
-pub fn sound_of(s: Summary) -> bool
-    ensures { result ≡ s.sound }
-{
-    s.sound
-}
-
-pub fn is_open(r: Record) -> bool
-    ensures { result ≡ eqb r.kind 1 }
-{
-    r.kind == 1
-}
-
-pub fn is_received(r: Record) -> bool
-    ensures { result ≡ eqb r.kind 5 }
-{
-    r.kind == 5
-}
-
-pub fn head_of(f: Fed) -> Head
-    ensures { result ≡ f.head }
-{
-    let head = f.head;
-    head
-}
-
-pub fn label_of(r: Record) -> u32
-    ensures { result ≡ r.label }
-{
-    r.label
+    };
+    scan_row(row, head, nothing).sound
 }
 
 pub fn opening_in(input: &[u8], f: Fed, r: Record) -> Opening
     ensures { result ≡ opening_in input.now f r }
 {
-    let settings = settings_in(r.label, body_at(input, f.used, r.size as usize));
     Opening {
-        settings: settings,
+        settings: settings_in(r.label, body_at(input, f.used, r.size as usize)),
         reading: r.time,
     }
-}
-
-// What a scan saw, of a row of which it is known whether it is in order.
-pub fn seen_with(seen: Summary, sound: bool) -> Summary
-    ensures { result ≡ seen_with seen sound }
-{
-    let mut known = seen;
-    known.sound = sound;
-    known
 }
 
 // The set in which the label is looked for: a tick looks for none.
 pub fn sought_in(f: Fed, r: Record) -> u64
     ensures { result ≡ sought_in f r }
 {
-    if r.kind == 0 {
-        return 0;
-    }
-    f.head.occupied
+    if r.kind == 0 { 0 } else { f.head.occupied }
 }
 
 pub fn seen_at(place: usize, sound: bool) -> Summary
     ensures { result ≡ seen_at place sound }
 {
     Summary {
-        place: place,
-        sound: sound,
+        place,
+        sound,
         rival: false,
         full: false,
     }
@@ -93,24 +53,19 @@ pub fn seen_at(place: usize, sound: bool) -> Summary
 fn body_from(used: usize) -> usize
     ensures { result ≡ body_from used }
 {
-    if used < 18_446_744_073_709_551_600 {
-        return used + 16;
-    }
-    18_446_744_073_709_551_615
+    used.saturating_add(16)
 }
 
 pub fn arrival_in(f: Fed, r: Record, place: usize, sound: bool) -> Arrival
     ensures { result ≡ arrival_in f r place sound }
 {
-    let head = f.head;
-    let from = body_from(f.used);
     Arrival {
-        head: head,
+        head: f.head,
         reading: r.time,
-        place: place,
-        from: from,
+        place,
+        from: body_from(f.used),
         size: r.size as usize,
-        sound: sound,
+        sound,
     }
 }
 
@@ -118,23 +73,13 @@ pub fn arrival_in(f: Fed, r: Record, place: usize, sound: bool) -> Arrival
 pub fn request_in(r: Record) -> Request
     ensures { result ≡ request_in r }
 {
-    if r.kind == 0 {
-        return Request::Tick(r.time);
+    match r.kind {
+        0 => Request::Tick(r.time),
+        2 => Request::Close(r.label, r.time),
+        3 => Request::Lock(r.label, r.time),
+        4 => Request::Unlock(r.label, r.time),
+        6 => Request::ReportOn(r.label),
+        7 => Request::WriteCc(r.label, 28),
+        _ => Request::WriteCv(r.label, 44),
     }
-    if r.kind == 2 {
-        return Request::Close(r.label, r.time);
-    }
-    if r.kind == 3 {
-        return Request::Lock(r.label, r.time);
-    }
-    if r.kind == 4 {
-        return Request::Unlock(r.label, r.time);
-    }
-    if r.kind == 6 {
-        return Request::ReportOn(r.label);
-    }
-    if r.kind == 7 {
-        return Request::WriteCc(r.label, 28);
-    }
-    Request::WriteCv(r.label, 44)
 }

@@ -6,21 +6,22 @@
 mod asking;
 mod calls;
 mod records;
+mod watching;
 
-ghost use Rattle.std.specs.Prelude.{◌≡◌, true, false};
+ghost use Rattle.std.specs.Prelude.{◌≡◌};
 ghost use Rattle.table.specs.Table.{in_order};
 ghost use Rattle.step.specs.Stepping.{table_of};
 ghost use Rattle.feed.specs.Feeding.{feed_of};
-ghost use Rattle.feed.specs.Calling.{message_next, Turns};
+ghost use Rattle.feed.specs.Calling.{Turns};
 
-use asking::head_of;
-pub use asking::{nothing_sought, sound_of};
+use asking::is_ordered;
 pub use calls::{other_call, receive_call};
-use records::{answer_line, brings_message, message_line, more, record_next};
+use capture::record_at;
+use records::{answer_line, message_line, more};
 pub use records::{behind, number_after};
-use row::scan_row;
 use session::Session;
 use table::Head;
+pub use watching::{Watch, watch_row};
 
 // How far a table is fed: clock and set, records so far, octets used and written.
 #[derive(Clone, Copy)]
@@ -31,40 +32,10 @@ pub struct Fed {
     pub written: usize,
 }
 
-// A record that brings a message: its call, and its line.
-fn message_turn(
-    row: &mut [Session],
-    hints: &mut [u8],
-    out: &mut [u8],
-    sound: bool,
-    f: Fed,
-    input: &[u8],
-) -> Fed
-    ensures { (message_next input.now f ≡ true) → Turns row.old out.old sound f input.now result row.new out.new }
-{
-    let r = record_next(input, f);
-    let o = receive_call(row, hints, sound, f, r, input);
-    message_line(out, f, input, r, o)
-}
-
-// Any other record.
-fn other_turn(
-    row: &mut [Session],
-    hints: &mut [u8],
-    out: &mut [u8],
-    sound: bool,
-    f: Fed,
-    input: &[u8],
-) -> Fed
-    ensures { (message_next input.now f ≡ false) → Turns row.old out.old sound f input.now result row.new out.new }
-{
-    let r = record_next(input, f);
-    let o = other_call(row, hints, sound, f, r, input);
-    answer_line(out, f, input, r, o)
-}
-
 // One record: its call, and its line. It takes octets of the input, whatever `sound` is. Where it
-// brings a message nothing is told, and room for what is told is not made.
+// brings a message nothing is told, and room for what is told is not made. (d) The lent slices go one by
+// one, here and in `watching`: of a struct with them each contract would name `row` and `out` behind two
+// references, and it would be lent anew in each turn.
 fn turn(
     row: &mut [Session],
     hints: &mut [u8],
@@ -75,13 +46,18 @@ fn turn(
 ) -> Fed
     ensures { Turns row.old out.old sound f input.now result row.new out.new }
 {
-    if brings_message(input, f) {
-        return message_turn(row, hints, out, sound, f, input);
+    let r = record_at(input, f.used);
+    if r.kind == 5 {
+        let o = receive_call(row, hints, sound, f, r, input);
+        return message_line(out, f, input, r, o);
     }
-    other_turn(row, hints, out, sound, f, input)
+    let o = other_call(row, hints, sound, f, r, input);
+    answer_line(out, f, input, r, o)
 }
 
-// The records, one after the other. `sound` is whether the row is in order.
+// The records, one after the other. `sound` is whether the row is in order. (d) A feed is no `Watch`:
+// it asks about no label, for which each record would have a session looked for, and its line is
+// written from all that a call tells, which `keep` does not see.
 fn feed_known(
     row: &mut [Session],
     hints: &mut [u8],
@@ -94,8 +70,7 @@ fn feed_known(
 {
     let mut f = from;
     while more(f, input, out.len()) {
-        let next = turn(&mut *row, &mut *hints, &mut *out, sound, f, input);
-        f = next;
+        f = turn(&mut *row, &mut *hints, &mut *out, sound, f, input);
     }
     f
 }
@@ -104,10 +79,7 @@ fn feed_known(
 pub fn feed_row(row: &mut [Session], from: Fed, input: &[u8], out: &mut [u8]) -> Fed
     ensures { record { row = row.exit.now; fed = result; out = out.new } ≡ feed_of row.entry.now from input.now out.old }
 {
-    let head = head_of(from);
-    let sought = nothing_sought();
-    let s = scan_row(&*row, head, sought);
-    let sound = sound_of(s);
+    let sound = is_ordered(&*row, from.head);
     let mut hints = [0u8; 256];
     feed_known(row, &mut hints, out, sound, from, input)
 }

@@ -1,63 +1,34 @@
 // One record of the feed: whether it is there, and its line.
-ghost use Rattle.std.specs.Prelude.{◌≡◌, true, ◌-◌, eqb, leb, length, drop};
-ghost use Rattle.capture.specs.Records.{record_from, body_in};
+ghost use Rattle.std.specs.Prelude.{◌≡◌, true, eqb, drop};
+ghost use Rattle.capture.specs.Records.{body_in};
 ghost use Rattle.capture.specs.Lines.{numbered};
 ghost use Rattle.capture.specs.Typing.{typed};
-ghost use Rattle.feed.specs.Feeding.{longest, more_of};
-ghost use Rattle.feed.specs.Calling.{message_next, told_line, is_unread, refused_line, answer_line, line_by, behind_of, fed_on, answered};
+ghost use Rattle.feed.specs.Feeding.{more_of};
+ghost use Rattle.feed.specs.Calling.{told_line, is_unread, refused_line, answer_line, line_by, behind_of, fed_on, answered};
 
 use crate::Fed;
 use capture::{
     Record, body_at, is_whole, next_record, put_placed, put_plain, put_reported, put_written,
-    record_at,
 };
 use message::place_of;
-use octets::{both, part};
+use octets::part;
 use step::{Outcome, Told};
 use table::Head;
 
-fn has_room(room: usize, written: usize) -> bool
-    ensures { result ≡ leb longest (room - written) }
-{
-    if room < written {
-        return false;
-    }
-    160 <= room - written
-}
-
 // A whole record stands next, and there is room for its line.
+#[tactic(auto, unfolding(crate::specs::Feeding::more_of))]
 pub fn more(f: Fed, input: &[u8], room: usize) -> bool
     ensures { result ≡ more_of f input.now room }
 {
-    if is_whole(next_record(input, f.used)) {
-        return has_room(room, f.written);
-    }
-    false
-}
-
-// Whether the record that stands next brings a message.
-pub fn brings_message(input: &[u8], f: Fed) -> bool
-    ensures { result ≡ message_next input.now f }
-{
-    record_at(input, f.used).kind == 5
-}
-
-// The record that stands next.
-pub fn record_next(input: &[u8], f: Fed) -> Record
-    ensures { result ≡ record_from (drop f.used input.now) }
-{
-    record_at(input, f.used)
+    is_whole(next_record(input, f.used)) && 160 <= room.saturating_sub(f.written)
 }
 
 // The place behind a record; its own where it does not stand whole in so many octets.
 pub fn behind(octets: usize, used: usize, size: u16) -> usize
     ensures { result ≡ behind_of octets used size }
 {
-    if octets < used {
-        return used;
-    }
     let all = 16 + size as usize;
-    if octets - used < all {
+    if octets.saturating_sub(used) < all {
         return used;
     }
     used + all
@@ -66,10 +37,7 @@ pub fn behind(octets: usize, used: usize, size: u16) -> usize
 pub fn number_after(n: u64) -> u64
     ensures { result ≡ numbered n }
 {
-    if n < 18_446_744_073_709_551_615 {
-        return n + 1;
-    }
-    n
+    n.saturating_add(1)
 }
 
 // Kind 6 tells its report, 7 and 8 their octets. A CV that goes into the 44 octets of a capture has
@@ -77,27 +45,23 @@ pub fn number_after(n: u64) -> u64
 fn put_told(out: &mut [u8], at: usize, number: u64, kind: u16, told: Told) -> usize
     ensures { record { buffer = out.new; at = result } ≡ typed (record { buffer = out.old; at = at }) (told_line number kind told) }
 {
-    if kind == 6 {
-        let report = told.report;
-        return put_reported(out, at, number, report);
+    match kind {
+        6 => put_reported(out, at, number, told.report),
+        7 => put_written(out, at, number, &told.cc),
+        _ => put_written(out, at, number, part(&told.cv.octets, 0, 44)),
     }
-    if kind == 7 {
-        let octets = told.cc;
-        return put_written(out, at, number, &octets);
-    }
-    let whole = told.cv.octets;
-    put_written(out, at, number, part(&whole, 0, 44))
 }
 
 // A message that its reader refuses.
 fn is_unread(kind: u16, answer: u32) -> bool
     ensures { result ≡ is_unread kind answer }
 {
-    both(kind == 5, both(3 <= answer, answer <= 8))
+    kind == 5 && 3 <= answer && answer <= 8
 }
 
 // The line of a refusal. A refused message is read again for its place: the call's answer carries
 // none.
+#[tactic(auto, unfolding(crate::specs::Calling::refused_line))]
 fn put_refused(
     out: &mut [u8],
     at: usize,
@@ -135,6 +99,7 @@ fn put_answer(
 }
 
 // The line of an outcome, by the record's kind.
+#[tactic(auto, unfolding(crate::specs::Calling::line_by))]
 fn put_by(
     out: &mut [u8],
     at: usize,
@@ -152,38 +117,38 @@ fn put_by(
     if r.kind < 6 {
         return put_plain(out, at, number, 0);
     }
-    let told = o.told;
-    put_told(out, at, number, r.kind, told)
+    put_told(out, at, number, r.kind, o.told)
 }
 
 // How far the table is fed behind a record of an input of so many octets.
-fn fed_on(f: Fed, r: Record, octets: usize, head: Head, written: usize) -> Fed
+pub fn fed_on(f: Fed, r: Record, octets: usize, head: Head, written: usize) -> Fed
     ensures { result ≡ fed_on f r octets head written }
 {
     Fed {
-        head: head,
+        head,
         number: number_after(f.number),
         used: behind(octets, f.used, r.size),
-        written: written,
+        written,
     }
 }
 
 // The line for a record's outcome, and how far the table is fed then.
+#[tactic(auto, unfolding(crate::specs::Calling::answered))]
 pub fn answer_line(out: &mut [u8], f: Fed, input: &[u8], r: Record, o: Outcome) -> Fed
     ensures { record { fed = result; out = out.new } ≡ answered out.old f input.now r o }
 {
     let number = number_after(f.number);
-    let head = o.head;
     let written = put_by(out, f.written, number, r, o, input, f.used);
-    fed_on(f, r, input.len(), head, written)
+    fed_on(f, r, input.len(), o.head, written)
 }
 
-// The same for a message: of its outcome only head and answer are asked for.
+// The same for a message: of its outcome only head and answer are asked for, so that room for what is
+// told is not made. (b) An outcome that is lent to the two of them costs 10 to 21 instructions a record.
+#[tactic(auto, unfolding(crate::specs::Calling::answered, crate::specs::Calling::line_by))]
 pub fn message_line(out: &mut [u8], f: Fed, input: &[u8], r: Record, o: Outcome) -> Fed
     ensures { (eqb r.kind 5 ≡ true) → record { fed = result; out = out.new } ≡ answered out.old f input.now r o }
 {
     let number = number_after(f.number);
-    let next = o.head;
     let written = put_answer(out, f.written, number, r, o.answer, input, f.used);
-    fed_on(f, r, input.len(), next, written)
+    fed_on(f, r, input.len(), o.head, written)
 }

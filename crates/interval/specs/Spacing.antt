@@ -10,7 +10,7 @@ use Rattle.rules.specs.Received.{received_as}
 use Rattle.rules.specs.Calls.{Act, Close, Lock, Unlock, Receive, ReportOn, WriteCc, WriteCv, Call, Tick, Open, On, is_accepted}
 use Rattle.meaning.specs.Stories.{Story, settings_of}
 use Rattle.meaning.specs.Histories.{History, start, after, story}
-use Rattle.account.specs.declared.Spaced.{Spaced}
+use Rattle.account.specs.Figures.{Spaced}
 use Rattle.account.specs.Figures.{error_of, exact, finished}
 pub use Rattle.interval.specs.declared.Event.{Event}
 pub use Rattle.interval.specs.declared.Event.TheVariants.{Nothing, Forgotten, Heard}

@@ -10,7 +10,7 @@ use Rattle.rules.specs.declared.Settings.{Settings}
 use Rattle.rules.specs.Calls.{Close, Lock, Unlock, Receive, Call, Tick, Open, On}
 use Rattle.meaning.specs.Histories.{start}
 use Rattle.meaning.specs.Edges.{told-all}
-use Rattle.account.specs.declared.Spaced.{Spaced}
+use Rattle.account.specs.Figures.{Spaced}
 use Rattle.account.specs.Figures.{refused}
 use Rattle.interval.specs.Spacing.{spacing_of}
 

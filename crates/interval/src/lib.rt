@@ -14,14 +14,15 @@ use session::Session;
 
 // What an accepted call is to the label: a CC heard at a reading under a period; the end of an
 // opening or of a stretch unlocked, whose last CC is forgotten; or nothing.
-#[derive(Clone, Copy)]
+#[derive(Clone, Copy, Debug, PartialEq, Eq)]
 pub enum Event {
     Nothing,
     Forgotten,
     Heard(u64, u32),
 }
 
-// The account so far, and the reading of the last heard CC, where there is one.
+// The account so far, and the reading of the last heard CC, where there is one: a mark and a number, no Option, since the
+// definitions of `Pacing` speak of both.
 #[derive(Clone, Copy)]
 pub struct Pace {
     pub account: Account,
@@ -45,11 +46,10 @@ fn message_event(before: Session, reading: u64, body: &[u8]) -> Event
     ensures { result ≡ message_event before reading body.now }
 {
     let channel = get_u16(body, 2);
-    let settings = before.settings;
     let your = get_u32(body, 12);
     if channel == CC_CHANNEL {
-        let crossed = rules::is_foreign(settings.discriminator, your);
-        return cc_event(crossed, reading, settings.period);
+        let crossed = rules::is_foreign(before.settings.discriminator, your);
+        return cc_event(crossed, reading, before.settings.period);
     }
     Event::Nothing
 }
@@ -75,6 +75,7 @@ fn own_event(before: Session, r: Record, body: &[u8]) -> Event
 }
 
 // A record of any label.
+#[tactic(auto, unfolding(crate::specs::Records::record_event))]
 pub fn event_of(before: Session, label: u32, r: Record, body: &[u8]) -> Event
     ensures { result ≡ record_event before label r body.now }
 {
@@ -103,8 +104,8 @@ fn hear(p: Pace, reading: u64, period: u32) -> Pace
         account = add_pair(account, reading, p.reading, period);
     }
     Pace {
-        account: account,
-        reading: reading,
+        account,
+        reading,
         heard: true,
     }
 }
@@ -115,14 +116,11 @@ pub fn pace_by(p: Pace, e: Event) -> Pace
 {
     match e {
         Event::Nothing => p,
-        Event::Forgotten => {
-            let account = p.account;
-            Pace {
-                account: account,
-                reading: 0,
-                heard: false,
-            }
-        }
+        Event::Forgotten => Pace {
+            reading: 0,
+            heard: false,
+            ..p
+        },
         Event::Heard(reading, period) => hear(p, reading, period),
     }
 }

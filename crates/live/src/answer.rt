@@ -2,13 +2,13 @@
 // the label stands.
 ghost use Rattle.std.specs.Prelude.{◌≡◌};
 ghost use Rattle.step.specs.Requests.{aimed_at};
-ghost use Rattle.cause.specs.FromMarks.{said};
+ghost use Rattle.octets.specs.Refusals.{refusal_in, answer_in};
 ghost use Rattle.live.specs.Live.{asked_label, live_marks, thing_of, cause_live, without_number, told_of, table_refusal, answer_of, step_of};
 
 use crate::{LiveCause, LiveQuestion, LiveStep};
-use cause::{Marks, Thing, WhyAnswer, cause_from};
+use cause::{Cause, Marks, Thing, cause_from};
 use conditions::Conditions;
-use octets::need;
+use octets::Refusal;
 use scan::{Summary, Target};
 use session::Session;
 use table::Head;
@@ -37,73 +37,69 @@ fn live_marks(cs: Conditions) -> Marks
     }
 }
 
-fn cause_live(r: Session, now: u64, q: LiveQuestion) -> WhyAnswer
-    ensures { said result ≡ cause_live r now (thing_of q) }
+fn cause_live(r: Session, now: u64, q: LiveQuestion) -> Result<Cause, Refusal>
+    ensures { answer_in result ≡ cause_live r now (thing_of q) }
 {
-    let cs = r.conditions;
-    let m = live_marks(cs);
-    if q.thing == 1 {
-        return cause_from(m, r, now, Thing::Crossing);
-    }
-    if q.thing == 2 {
-        return cause_from(m, r, now, Thing::Loss);
-    }
-    if q.thing == 3 {
-        return cause_from(m, r, now, Thing::HeldBack);
-    }
-    if q.thing == 4 {
-        let key = q.key;
-        return cause_from(m, r, now, Thing::Condition(key));
-    }
-    WhyAnswer::Refused(15)
+    let m = live_marks(r.conditions);
+    let thing = match q.thing {
+        1 => Thing::Crossing,
+        2 => Thing::Loss,
+        3 => Thing::HeldBack,
+        4 => Thing::Condition(q.key),
+        _ => return Err(Refusal::NotStanding),
+    };
+    cause_from(m, r, now, thing)
 }
 
 // 26, then 2.
-fn table_refusal(seen: Summary) -> u32
-    ensures { result ≡ table_refusal seen }
+fn table_refusal(seen: Summary) -> Result<(), Refusal>
+    ensures { refusal_in result ≡ table_refusal seen }
 {
-    need(seen.sound, 26, need(seen.place < 64, 2, 0))
+    if !seen.sound {
+        return Err(Refusal::Unsound);
+    }
+    if seen.place >= 64 {
+        return Err(Refusal::NotOpen);
+    }
+    Ok(())
 }
 
 // Then what the record says.
-fn live_answer(seen: Summary, now: u64, q: LiveQuestion, r: Session) -> WhyAnswer
-    ensures { said result ≡ answer_of seen now (thing_of q) r }
+#[tactic(auto, unfolding(crate::specs::Live::answer_of))]
+fn live_answer(seen: Summary, now: u64, q: LiveQuestion, r: Session) -> Result<Cause, Refusal>
+    ensures { answer_in result ≡ answer_of seen now (thing_of q) r }
 {
-    let n = table_refusal(seen);
-    if n == 0 {
-        return cause_live(r, now, q);
-    }
-    WhyAnswer::Refused(n)
+    table_refusal(seen)?;
+    cause_live(r, now, q)
 }
 
-fn told(head: Head, a: WhyAnswer) -> LiveCause
-    ensures { result ≡ told_of head (without_number (said a)) }
+fn told(head: Head, a: Result<Cause, Refusal>) -> LiveCause
+    ensures { result ≡ told_of head (without_number (answer_in a)) }
 {
     match a {
-        WhyAnswer::Because(c) => LiveCause {
-            head: head,
+        Ok(c) => LiveCause {
+            head,
             reading: c.reading,
             age: c.age,
             end: c.end,
             answer: 0,
         },
-        WhyAnswer::Refused(n) => LiveCause {
-            head: head,
+        Err(refusal) => LiveCause {
+            head,
             reading: 0,
             age: 0,
             end: 0,
-            answer: n,
+            answer: u32::from(refusal),
         },
     }
 }
 
+#[tactic(auto, unfolding(crate::specs::Live::step_of))]
 pub fn live_step(seen: Summary, head: Head, q: LiveQuestion, r: Session) -> LiveStep
     ensures { result ≡ step_of seen head q r }
 {
-    let answer = live_answer(seen, head.clock, q, r);
-    let outcome = told(head, answer);
     LiveStep {
-        outcome: outcome,
+        outcome: told(head, live_answer(seen, head.clock, q, r)),
         place: seen.place,
     }
 }

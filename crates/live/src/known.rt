@@ -9,6 +9,7 @@ use session::Session;
 use table::Head;
 
 // The record that is asked is put back as it was: calls of one shape share one proof.
+#[tactic(auto, unfolding(crate::specs::Live::why_at))]
 pub fn why_at(row: &mut [Session], head: Head, seen: Summary, q: LiveQuestion) -> LiveCause
     ensures { (result ≡ why_at row.old head seen q) × (row.new ≡ row.old) }
 {

@@ -1,4 +1,2 @@
 pub mod Turns
-pub mod Ways
-pub mod Going
 pub mod Paces

@@ -1,2 +1,3 @@
 pub mod Pacing
 pub mod Calling
+pub mod Laws

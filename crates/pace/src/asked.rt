@@ -11,18 +11,11 @@ pub struct Asked {
     pub pacing: Pacing,
 }
 
-fn pace_own(t: Asked, input: &[u8], none: &mut [u8]) -> Asked
-    ensures { record { row = result.row; pacing = result.pacing } ≡ pace_of t.row t.pacing input.now }
-{
-    let mut row = t.row;
-    let pacing = pace_row(&mut row, t.pacing, input, none);
-    Asked { row, pacing }
-}
-
 // The pacing of a table's own row.
 pub fn pace(t: Asked, input: &[u8]) -> Asked
     ensures { record { row = result.row; pacing = result.pacing } ≡ pace_of t.row t.pacing input.now }
 {
-    let mut none = [0u8; 0];
-    pace_own(t, input, &mut none)
+    let mut row = t.row;
+    let pacing = pace_row(&mut row, t.pacing, input);
+    Asked { row, pacing }
 }

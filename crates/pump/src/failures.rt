@@ -5,16 +5,19 @@ ghost use Rattle.pump.specs.Failures.{call_failed, failure_line};
 
 use capture::{put_decimal, put_words};
 
+#[tactic(auto, unfolding(capture::specs::Typing::typed))]
 fn put_call(out: &mut [u8], at: usize, writing: bool) -> usize
     ensures { record { buffer = out.new; at = result } ≡ typed (record { buffer = out.old; at = at }) (call_failed writing) }
 {
     if writing {
-        return put_words(out, at, b": write failed, errno ");
+        put_words(out, at, b": write failed, errno ")
+    } else {
+        put_words(out, at, b": read failed, errno ")
     }
-    put_words(out, at, b": read failed, errno ")
 }
 
 // The line of the program of that name, from the buffer's front on; how many octets it has.
+#[tactic(auto, unfolding(capture::specs::Typing::typed, crate::specs::Failures::failure_line))]
 pub fn put_failure(out: &mut [u8], name: &[u8], writing: bool, error: u64, number: u64) -> usize
     ensures { record { buffer = out.new; at = result } ≡ typed (record { buffer = out.old; at = 0 }) (failure_line name.now writing error number) }
 {

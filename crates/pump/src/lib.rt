@@ -15,7 +15,8 @@ use owner::Feeding;
 use turns::{begin, feed_on, is_ready};
 
 // The table, how many octets of input are there, which octets of output are still to be written,
-// and whether the header is read, the input has ended, and the text is over.
+// and whether the header is read, the input has ended, and the text is over. Three marks that may stand together and no
+// enum of stages: the input may end before the header is read, or after the text is over.
 #[derive(Clone, Copy)]
 pub struct Pump {
     pub table: Feeding,
@@ -28,19 +29,19 @@ pub struct Pump {
 }
 
 // What is wanted next: one read, one write, or nothing more.
-#[derive(Clone, Copy)]
+#[derive(Clone, Copy, Debug, PartialEq, Eq)]
 pub enum Wanted {
     Read,
     Write,
     Nothing,
 }
 
+#[tactic(auto, unfolding(crate::specs::Pumping::starting))]
 pub fn start() -> Pump
     ensures { result ≡ starting }
 {
-    let table = text::empty_table(0);
     Pump {
-        table,
+        table: text::empty_table(0),
         have: 0,
         from: 0,
         to: 0,
@@ -50,6 +51,7 @@ pub fn start() -> Pump
     }
 }
 
+#[tactic(auto, unfolding(crate::specs::Pumping::wants_of))]
 pub fn wants(p: Pump) -> Wanted
     ensures { result ≡ wants_of p }
 {
@@ -70,46 +72,35 @@ pub fn pending(p: Pump, out: &[u8]) -> &[u8]
 }
 
 // So many octets were read behind those that are there; none is the end of the input.
+#[tactic(auto, unfolding(crate::specs::Pumping::got_of))]
 pub fn got(p: Pump, n: usize, buf: &[u8]) -> Pump
     ensures { result ≡ got_of p n (length buf.now) }
 {
-    let table = p.table;
     Pump {
-        table,
         have: advance(p.have, n, buf.len()),
-        from: p.from,
-        to: p.to,
-        begun: p.begun,
         closed: moving::is_end(p.closed, n),
-        over: p.over,
+        ..p
     }
 }
 
 // The write took so many octets of what it was handed.
+#[tactic(auto, unfolding(crate::specs::Pumping::took_of))]
 pub fn took(p: Pump, n: usize) -> Pump
     ensures { result ≡ took_of p n }
 {
-    let table = p.table;
     Pump {
-        table,
-        have: p.have,
         from: advance(p.from, n, p.to),
-        to: p.to,
-        begun: p.begun,
-        closed: p.closed,
-        over: p.over,
+        ..p
     }
 }
 
 // What there is to do between two system calls: records are fed and their lines put, what is left of
 // the input is moved to its buffer's front, and the last words are put.
+#[tactic(auto, unfolding(crate::specs::Pumping::turn_of))]
 pub fn turn(p: Pump, buf: &mut [u8], out: &mut [u8]) -> Pump
     ensures { record { pump = result; buf = buf.new; out = out.new } ≡ turn_of p buf.old out.old }
 {
-    if p.from < p.to {
-        return p;
-    }
-    if p.over {
+    if p.from < p.to || p.over {
         return p;
     }
     let q = begin(p, &mut *buf, &mut *out);

@@ -6,64 +6,41 @@ ghost use Rattle.pump.specs.Pumping.{Within, Shifted};
 pub fn advance(at: usize, n: usize, end: usize) -> usize
     ensures { result ≡ min (at + n) end }
 {
-    if end < at {
-        return end;
-    }
-    if end - at < n {
-        return end;
-    }
-    at + n
+    at.saturating_add(n).min(end)
 }
 
 // The input ends where it did before, and where nothing was read.
 pub fn is_end(closed: bool, n: usize) -> bool
     ensures { result ≡ closed || eqb n 0 }
 {
-    if closed {
-        return true;
-    }
-    n == 0
+    closed || n == 0
 }
 
 // At most so many of the buffer's octets.
 pub fn within(n: usize, buf: &[u8]) -> usize
     ensures { Within n buf.now result }
 {
-    if n < buf.len() {
-        return n;
-    }
-    buf.len()
+    n.min(buf.len())
 }
 
 // The octets from a place to another, as far as the buffer goes.
 pub fn part(s: &[u8], from: usize, to: usize) -> &[u8]
     ensures { result.now ≡ take (to - from) (drop from s.now) }
 {
-    if to < from {
-        return &s[0..0];
-    }
-    if s.len() < from {
-        return &s[0..0];
-    }
-    if s.len() < to {
-        return &s[from..];
-    }
-    &s[from..to]
+    octets::part(s, from, to.saturating_sub(from))
 }
 
-// The octets from a place to another, which the buffer has, one by one.
+// The octets from a place to another, which the buffer has, one by one: the library copies between two slices, and not
+// within one.
 fn move_within(buf: &mut [u8], from: usize, to: usize) -> usize
     requires { to ≤ length buf.old }
     ensures { Shifted buf.old from to result buf.new }
 {
-    let mut i: usize = 0;
-    let mut j = from;
-    while j < to {
-        buf[i] = buf[j];
-        i += 1;
-        j += 1;
+    let n = to.saturating_sub(from);
+    for i in 0..n {
+        buf[i] = buf[from + i];
     }
-    i
+    n
 }
 
 // The octets from a place to another, as far as the buffer goes, are moved to the front; how many

@@ -12,49 +12,38 @@ use octets::put_octets;
 use owner::{Feeding, feed};
 
 // The table, before the first octet of the input and of the output.
+#[tactic(auto, unfolding(crate::specs::Pumping::at_front))]
 fn at_front(t: Feeding) -> Feeding
     ensures { result ≡ at_front t }
 {
-    let row = t.row;
-    let head = t.fed.head;
-    let fed = Fed {
-        head: head,
-        number: t.fed.number,
-        used: 0,
-        written: 0,
-    };
-    Feeding { row, fed }
+    Feeding {
+        fed: Fed {
+            used: 0,
+            written: 0,
+            ..t.fed
+        },
+        ..t
+    }
 }
 
 fn cannot_mend(n: Next) -> bool
     ensures { result ≡ cannot_mend n }
 {
-    match n {
-        Next::Whole(_) => false,
-        Next::Broken => true,
-        Next::Short => false,
-        Next::End => false,
-    }
+    matches!(n, Next::Broken)
 }
 
 // Nothing that may come changes how the text ends.
 fn is_over(closed: bool, n: Next) -> bool
     ensures { result ≡ is_over closed n }
 {
-    if closed {
-        return true;
-    }
-    cannot_mend(n)
+    closed || cannot_mend(n)
 }
 
 // The header is not there yet, and may come.
 fn is_waiting(closed: bool, octets: usize) -> bool
     ensures { result ≡ is_waiting closed octets }
 {
-    if closed {
-        return false;
-    }
-    octets < 8
+    !closed && octets < 8
 }
 
 // The last words of the text.
@@ -62,15 +51,11 @@ fn finish(p: Pump, out: &mut [u8], words: &[u8]) -> Pump
     ensures { (result ≡ last_words p (length words.now)) × (out.new ≡ sets out.old 0 words.now) }
 {
     put_octets(out, 0, words);
-    let table = p.table;
     Pump {
-        table,
-        have: p.have,
         from: 0,
         to: words.len(),
-        begun: p.begun,
-        closed: p.closed,
         over: true,
+        ..p
     }
 }
 
@@ -79,9 +64,10 @@ fn end(p: Pump, out: &mut [u8], left: bool) -> Pump
     ensures { (result ≡ last_words p (length (cond left cut []))) × (out.new ≡ sets out.old 0 (cond left cut [])) }
 {
     if left {
-        return finish(p, out, b"cut\n");
+        finish(p, out, b"cut\n")
+    } else {
+        finish(p, out, b"")
     }
-    finish(p, out, b"")
 }
 
 // Nothing is fed: how the text ends, once that is known.
@@ -96,18 +82,18 @@ fn unfed(p: Pump, buf: &[u8], out: &mut [u8]) -> Pump
 }
 
 // As many records as are there and as many lines as fit.
+#[tactic(auto, unfolding(crate::specs::Pumping::fed_on))]
 fn feed_some(p: Pump, buf: &mut [u8], out: &mut [u8]) -> Pump
     ensures { record { pump = result; buf = buf.new; out = out.new } ≡ fed_on p buf.old out.old }
 {
     let n = within(p.have, buf);
-    let before = p.table;
-    let table = feed(at_front(before), &buf[..n], &mut *out);
+    let table = feed(at_front(p.table), &buf[..n], &mut *out);
     let used = table.fed.used;
     if used > 0 {
         let have = shift(buf, used, n);
         return Pump {
             table,
-            have: have,
+            have,
             from: 0,
             to: table.fed.written,
             begun: true,
@@ -120,6 +106,7 @@ fn feed_some(p: Pump, buf: &mut [u8], out: &mut [u8]) -> Pump
 
 // Behind each write comes a turn, and mostly no whole record is left then: so the table is neither
 // copied nor asked for 26.
+#[tactic(auto, unfolding(crate::specs::Pumping::fed_on))]
 pub fn feed_on(p: Pump, buf: &mut [u8], out: &mut [u8]) -> Pump
     ensures { record { pump = result; buf = buf.new; out = out.new } ≡ fed_on p buf.old out.old }
 {
@@ -134,19 +121,15 @@ pub fn feed_on(p: Pump, buf: &mut [u8], out: &mut [u8]) -> Pump
 fn behind_header(p: Pump, have: usize) -> Pump
     ensures { result ≡ header_read p have }
 {
-    let table = p.table;
     Pump {
-        table,
-        have: have,
-        from: p.from,
-        to: p.to,
+        have,
         begun: true,
-        closed: p.closed,
-        over: p.over,
+        ..p
     }
 }
 
 // The header, where it is not read yet.
+#[tactic(auto, unfolding(crate::specs::Pumping::begun_on))]
 pub fn begin(p: Pump, buf: &mut [u8], out: &mut [u8]) -> Pump
     ensures { record { pump = result; buf = buf.new; out = out.new } ≡ begun_on p buf.old out.old }
 {
@@ -168,8 +151,5 @@ pub fn begin(p: Pump, buf: &mut [u8], out: &mut [u8]) -> Pump
 pub fn is_ready(begun: bool, over: bool) -> bool
     ensures { result ≡ is_ready begun over }
 {
-    if begun {
-        return !over;
-    }
-    false
+    begun && !over
 }

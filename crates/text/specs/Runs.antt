@@ -1,9 +1,19 @@
 -- What `run` answers, and every byte of the lent buffer afterwards.
 -- Assumes nothing.
-use Rattle.std.specs.Prelude.{ℕ, cond, List, eqb, length}
+use Rattle.std.specs.Prelude.{ℕ, cond, List, eqb, length, Result, Ok, Err}
 use Rattle.octets.specs.Writing.{Written, writing}
-use Rattle.text.specs.declared.Ran.{Ran}
+use Rattle.octets.specs.Refusals.{number_of}
+use Rattle.octets.specs.declared.refusals.Refusal.{Refusal}
 use Rattle.text.specs.Text.{text_of}
+
+-- the answer, and how many octets the text has
+pub record Ran : Type 0 where
+  pub answer : ℕ
+  pub written : ℕ
+
+abbrev pub ran_in : Result ℕ Refusal → Ran
+ran_in (Ok n) = record { answer = 0; written = n }
+ran_in (Err r) = record { answer = number_of r; written = 0 }
 
 pub record Finished : Type 0 where
   pub ran : Ran

@@ -11,34 +11,33 @@ use octets::put_octets;
 use owner::{Feeding, feed};
 
 // A table made empty, before the record at a place.
+#[tactic(auto, unfolding(crate::specs::Putting::empty_table))]
 pub fn empty_table(used: usize) -> Feeding
     ensures { result ≡ empty_table used }
 {
-    let r = table::absent();
-    let row = [r; 64];
-    let head = table::first_head();
-    let fed = Fed {
-        head: head,
-        number: 0,
-        used: used,
-        written: 0,
-    };
-    Feeding { row, fed }
+    Feeding {
+        row: [table::absent(); 64],
+        fed: Fed {
+            head: table::first_head(),
+            number: 0,
+            used,
+            written: 0,
+        },
+    }
 }
 
 // The table with an output in which nothing is written.
+#[tactic(auto, unfolding(crate::specs::Putting::rewound))]
 fn rewind(t: Feeding) -> Feeding
     ensures { result ≡ rewound t }
 {
-    let row = t.row;
-    let head = t.fed.head;
-    let fed = Fed {
-        head: head,
-        number: t.fed.number,
-        used: t.fed.used,
-        written: 0,
-    };
-    Feeding { row, fed }
+    Feeding {
+        fed: Fed {
+            written: 0,
+            ..t.fed
+        },
+        ..t
+    }
 }
 
 fn count(room: usize, at: usize, octets: usize) -> Count
@@ -63,6 +62,7 @@ fn count(room: usize, at: usize, octets: usize) -> Count
 }
 
 // A part of the text at a place; what lies past the buffer's end is dropped.
+#[tactic(auto, unfolding(crate::specs::Putting::putting))]
 fn put_part(out: &mut [u8], at: usize, room: usize, part: &[u8]) -> Count
     ensures { record { count = result; out = out.new } ≡ putting out.old at room part.now }
 {
@@ -71,18 +71,21 @@ fn put_part(out: &mut [u8], at: usize, room: usize, part: &[u8]) -> Count
 }
 
 // Where something is left, that the capture is cut.
+#[tactic(auto, unfolding(crate::specs::Putting::putting))]
 fn put_end(out: &mut [u8], at: usize, room: usize, left: bool) -> Count
     ensures { record { count = result; out = out.new } ≡ putting out.old at room (cond left cut []) }
 {
     if left {
-        return put_part(out, at, room, b"cut\n");
+        put_part(out, at, room, b"cut\n")
+    } else {
+        put_part(out, at, room, b"")
     }
-    put_part(out, at, room, b"")
 }
 
 // All lines of a capture and how it ends, from the buffer's front on; what lies past its end is
 // dropped. It stops where the text has more octets than the room. Many lines are fed at a time, so
 // that the table's row is not copied for every record.
+#[tactic(auto, unfolding(crate::specs::Putting::putting, crate::specs::Text::text_after))]
 pub(crate) fn put_lines(capture: &[u8], out: &mut [u8], room: usize) -> Count
     requires { length out.old ≤ room }
     ensures { record { count = result; out = out.new } ≡ putting out.old 0 room (text_after start 0 (drop 8 capture.now)) }

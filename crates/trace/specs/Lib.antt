@@ -1,3 +1,4 @@
 pub mod Tracing
 pub mod Calling
 pub mod Asking
+pub mod Laws

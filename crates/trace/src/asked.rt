@@ -1,9 +1,8 @@
 // A table by value that is asked about one label: its own row of 64 records, and the tracing.
 ghost use Rattle.std.specs.Prelude.{◌≡◌};
 ghost use Rattle.trace.specs.Tracing.{trace_of};
-ghost use Rattle.trace.specs.Asking.{found_at, found_by};
+ghost use Rattle.trace.specs.Asking.{found_by};
 
-use crate::records::{label_asked, no_discriminator};
 use crate::{Tracing, trace_row};
 use row::{find, record_at};
 use session::Session;
@@ -14,7 +13,8 @@ pub struct Asked {
     pub tracing: Tracing,
 }
 
-// The record of the label, where it is open.
+// The record of the label, where it is open. (a) `found_by` and `found_in`, by which `inquiry` and
+// `reply` say what they answer, read its mark.
 #[derive(Clone, Copy)]
 pub struct Found {
     pub session: Session,
@@ -30,32 +30,15 @@ pub fn trace(t: Asked, input: &[u8], kept: &mut [u8]) -> Asked
     Asked { row, tracing }
 }
 
-fn occupied_in(x: Tracing) -> u64
-    ensures { result ≡ x.fed.head.occupied }
-{
-    x.fed.head.occupied
-}
-
-// What is read at a place: the record is there where the place is one of the row's.
-fn found_at(session: Session, place: usize) -> Found
-    ensures { result ≡ found_at session place }
-{
-    Found {
-        session: session,
-        there: place < 64,
-    }
-}
-
-// The record of the label that is asked about.
+// The record of the label that is asked about. It is there where its place is one of the row's; no
+// session has discriminator 0.
+#[tactic(auto, unfolding(crate::specs::Asking::found_by))]
 pub fn record_asked(t: Asked) -> Found
     ensures { result ≡ found_by t }
 {
-    let row = t.row;
-    let x = t.tracing;
-    let occupied = occupied_in(x);
-    let label = label_asked(x);
-    let discriminator = no_discriminator(x);
-    let place = find(&row, occupied, label, discriminator);
-    let session = record_at(&row, place);
-    found_at(session, place)
+    let place = find(&t.row, t.tracing.fed.head.occupied, t.tracing.label, 0);
+    Found {
+        session: record_at(&t.row, place),
+        there: place < 64,
+    }
 }

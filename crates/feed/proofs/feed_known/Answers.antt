@@ -1,4 +1,4 @@
-use Prim.Native.Nat.{ℕ, ◌-◌, ◌<◌, ◌≤◌, ◌+◌}
+use Prim.Native.Nat.{ℕ, ◌-◌, ◌<◌}
 use native.Mathlib.Omega.{arith}
 use mathlib.Core.Path.{◌≡◌, sym, subst, ◌∙◌}
 use mathlib.Core.Bool.{Bool, true}
@@ -6,10 +6,9 @@ use mathlib.Core.List.{List}
 use lib.Dec.{T as Holds}
 use lib.ListN.{length}
 use Rattle.feed.specs.declared.Fed.{Fed}
-use Rattle.feed.specs.Feeding.{Flow, more_of, turn_of, go_on}
-use Rattle.feed.specs.Calling.{Turns}
+use Rattle.feed.specs.Feeding.{more_of, turn_of, go_on}
 use Rattle.feed.proofs.Going
-use Rattle.feed.proofs.Turns.{flow, order-of, used-of, end-of, After, more-says, turn-mark, stops, goes_on_lem, begins}
+use Rattle.feed.proofs.Turns.{flow, order-of, used-of, end-of, more-says, turn-mark, stops, goes_on_lem, begins}
 use Rattle.feed.proofs.feed_known.Goals as goal
 
 module _ (input : List ℕ) (f : Fed) (room : ℕ) (more : more_of f input room ≡ true) where
@@ -26,7 +25,7 @@ loop-row-init c = let a = c.args in
 pub loop-row-smaller : goal.loop-row-smaller
 loop-row-smaller c = let l = c.loop-row in
     let e = sym c.more.ensures ∙ c.loop-row-test.true in
-    less c.args.input.now l.f (length l.out) e c.turn-next.result (c.turn-next.ensures e).0
+    less c.args.input.now l.f (length l.out) e c.turn-f.result (c.turn-f.ensures e).0
 
 pub loop-row-preserved : goal.loop-row-preserved
 loop-row-preserved c = let a = c.args in
@@ -34,8 +33,8 @@ loop-row-preserved c = let a = c.args in
     let i = a.input.now in
     let x = flow l.row l.f l.out in
     let e = sym c.more.ensures ∙ c.loop-row-test.true in
-    let turned = c.turn-next.ensures e in
-    Going.goes_one (length i) used-of order-of (go_on i) (end-of i) a.sound (turn_of i) x (flow c.turn-next.new.row c.turn-next.result c.turn-next.new.out)
+    let turned = c.turn-f.ensures e in
+    Going.goes_one (length i) used-of order-of (go_on i) (end-of i) a.sound (turn_of i) x (flow c.turn-f.new.row c.turn-f.result c.turn-f.new.out)
     (there i l.f (length l.out) e) turned.0 turned.1 (turn-mark i x) (λ n. goes_on_lem i n x e) (flow a.row.now a.from a.out.now) l.invariant
 
 pub returns : goal.returns

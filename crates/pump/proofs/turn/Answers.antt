@@ -2,14 +2,6 @@ use mathlib.Core.Path.{sym, ◌∙◌}
 use Rattle.pump.proofs.Turning.{writes-first, no_more, turn-rests, turn-feeds}
 use Rattle.pump.proofs.turn.Goals as goal
 
-pub returns-then-p : goal.returns-then-p
-returns-then-p c = let s = c.args in writes-first s.p s.buf.now s.out.now c.if-p.true
-
-pub returns-then-p-2 : goal.returns-then-p-2
-returns-then-p-2 c =
-    let s = c.args in
-    no_more s.p s.buf.now s.out.now c.if-p.false c.if-p-2.true
-
 pub returns-then-not-is_ready : goal.returns-then-not-is_ready
 returns-then-not-is_ready c =
     let s = c.args in

@@ -25,9 +25,3 @@ returns-then-channel-eq-CV_CHANNEL c = let a = c.args in
     c.bfd_noted-then-channel-eq-CV_CHANNEL.ensures
     ∙ (λ i. bfd_noted a.m a.number (length b) (crossed i) 3)
     ∙ sym (cv-noted a.before a.m a.number a.reading b (λ p. c.if-channel-eq-CC_CHANNEL.false (e ∙ p)) (sym e ∙ c.if-channel-eq-CV_CHANNEL.true))
-
-pub returns : goal.returns
-returns c = let a = c.args in
-    let e = c.get_u16-channel.ensures in
-    c.fault_noted.ensures
-    ∙ sym (fault-noted a.before a.m a.number a.reading a.body.now (λ p. c.if-channel-eq-CC_CHANNEL.false (e ∙ p)) (λ p. c.if-channel-eq-CV_CHANNEL.false (e ∙ p)))
