@@ -1,29 +1,28 @@
 -- The line at the end is that of the whole capture; and where more may come that matters, there is room for it.
 -- Assumes nothing.
-use Prim.Native.Nat.{ℕ, ◌≤◌, ◌<◌}
+use Prim.Native.Nat.{ℕ, ◌<◌}
 use native.Mathlib.Omega.{arith}
-use mathlib.Core.Path.{◌≡◌, refl, sym, ap, ◌∙◌}
-use mathlib.Core.Bool.{true, false, cond}
+use mathlib.Core.Path.{◌≡◌, sym, ap, ◌∙◌}
+use mathlib.Core.Bool.{true, false}
 use mathlib.Core.List.{List, [], ◌++◌, append-nil}
 use lib.ListN.{length, drop, replicate, length-replicate}
 use lib.Seq.{length-take-le, drop-append-le}
 use Rattle.rules.specs.Calls.{Call}
 use Rattle.rules.proofs.Bools.{split, no_way, refuted}
-use Rattle.table.specs.Table.{absent, emptied}
-use Rattle.capture.specs.Records.{header_fits, next_in}
-use Rattle.meaning.specs.Histories.{History, start}
+use Rattle.table.specs.Table.{absent}
+use Rattle.capture.specs.Records.{header_fits}
+use Rattle.meaning.specs.Histories.{start}
 use Rattle.meaning.specs.Edges.{told-all}
-use Rattle.text.specs.Text.{Parsed, parsed}
+use Rattle.text.specs.Text.{parsed}
 use Rattle.cause.specs.Pasts.{past_of}
 use Rattle.account.specs.Accounts.{finished_of}
 use Rattle.interval.specs.Spacing.{spacing_of}
 use Rattle.interval.specs.Pacing.{Run, run_all, run_start}
 use Rattle.interval.proofs.Spaced.{spacing-is}
-use Rattle.pump.specs.Pumping.{cannot_mend}
 use Rattle.pump.proofs.Mending.{header-long, header-front, waits-short}
 use Rattle.gauge.specs.declared.input.Gauge.{Gauge}
 use Rattle.gauge.specs.Words.{spacing_line, spacing_text}
-use Rattle.gauge.specs.Gauging.{Gauged, start_of, input_in, holding, settled, text_of}
+use Rattle.gauge.specs.Gauging.{Gauged, start_of, input_in, text_of}
 use Rattle.gauge.specs.Held.{Unread, Wrong, Paced, Stage, Waiting, Refused, Reading, Held, MayCome, TextOf}
 use Rattle.gauge.proofs.Portions.{none_left, broken-parsed}
 

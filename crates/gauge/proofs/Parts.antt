@@ -15,7 +15,7 @@ use Rattle.interval.proofs.Spaced.{parts-combine}
 use Rattle.pace.specs.declared.Pacing.{Pacing}
 use Rattle.pace.specs.Pacing.{Trail, pace_of}
 use Rattle.pace.proofs.Paces.{run_of, pace-runs}
-use Rattle.gauge.proofs.Portions.{further, more-behind}
+use Rattle.gauge.proofs.Portions.{more-behind}
 
 -- before the first octet of the next part, with an account of its own
 abbrev pub handed : Pacing → Pacing

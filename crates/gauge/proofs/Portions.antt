@@ -1,14 +1,12 @@
 -- The records of a capture that still grows: octets that come behind go on from what was left.
 -- Assumes nothing.
-use Prim.Native.Nat.{ℕ, zero, suc, ◌+◌, ◌≤◌, ◌<◌}
+use Prim.Native.Nat.{ℕ, zero, suc, ◌≤◌}
 use native.Mathlib.Omega.{arith}
-use mathlib.Core.Path.{◌≡◌, refl, sym, ap, ◌∙◌}
+use mathlib.Core.Path.{◌≡◌, sym, ap, ◌∙◌}
 use mathlib.Core.Bool.{true, false}
-use mathlib.Core.List.{List, [], ◌∷◌, ◌++◌, append-nil}
+use mathlib.Core.List.{List, ◌∷◌, ◌++◌, append-nil}
 use lib.ListN.{length, drop, length-drop}
-use Rattle.rules.specs.Calls.{Call}
-use Rattle.rules.proofs.Bools.{split, no_way}
-use Rattle.capture.specs.declared.Next.TheVariants.{Whole, Broken, Short, End}
+use Rattle.rules.proofs.Bools.{split}
 use Rattle.capture.specs.Records.{next_in, call_in, is_whole, size_of}
 use Rattle.text.specs.Text.{Parsed, parsed}
 use Rattle.text.proofs.Parsing.{whole-size, next-front, call-front, drop-front, parsed-whole, parsed-none}

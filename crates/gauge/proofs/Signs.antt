@@ -2,9 +2,9 @@
 -- Assumes nothing.
 use Prim.Native.Nat.{ℕ}
 use native.Mathlib.Omega.{arith}
-use mathlib.Core.Path.{◌≡◌, refl, ap, ◌∙◌}
+use mathlib.Core.Path.{◌≡◌, refl, sym, ap, ◌∙◌}
 use mathlib.Core.Bool.{Bool, true, false}
-use mathlib.Core.List.{List, ◌++◌}
+use mathlib.Core.List.{List, ◌++◌, append_assoc}
 use lib.IntN.{ℤ, pos, negsuc, nat_abs}
 use lib.Signed.{lt_z}
 use mir.Syntax.{w64}
@@ -14,7 +14,14 @@ use borrow.Author.Tests.{ltb-true}
 use Rattle.rules.proofs.Bools.{no_way}
 use Rattle.capture.specs.Lines.{decimal}
 use Rattle.capture.specs.Typing.{Put, typed}
+use Rattle.capture.proofs.Typing.{typed-join}
 use Rattle.gauge.specs.Words.{w_minus, signed_words, bound_words, sum_words}
+
+-- two texts, one behind the other
+pub joined : (p : Put) (xs ys : List ℕ) → typed (typed p xs) ys ≡ typed p (xs ++ ys)
+joined p xs ys = sym (typed-join xs ys p)
+
+pub ruleset parts = (joined, append_assoc)
 
 pub below-words : (z : ℤ) → lt_z z (pos 0) ≡ true → signed_words z ≡ w_minus ++ decimal (nat_abs z)
 below-words (pos n) h = absurd (omega (arith, ltb-true n 0 h))

@@ -2,7 +2,7 @@
 -- Assumes nothing.
 use Rattle.std.specs.Prelude.{ℕ, suc, Bool, cond, List, [], ◌∷◌, ◌++◌, eqb, ℤ, pos, negsuc}
 use Rattle.capture.specs.Lines.{decimal}
-use Rattle.account.specs.declared.Spaced.{Spaced}
+use Rattle.account.specs.Figures.{Spaced}
 use Rattle.cause.specs.Pasts.{past_of}
 use Rattle.interval.specs.Spacing.{spacing_of}
 

@@ -4,7 +4,7 @@ use Prim.Native.Nat.{ℕ, ◌+◌, ◌%◌, ◌<◌}
 use native.Mathlib.Omega.{arith}
 use native.Mathlib.Nat.{mod-eq_of_lt}
 use mathlib.Core.Path.{◌≡◌, sym, ap, ◌∙◌}
-use mathlib.Core.List.{List, [], ◌∷◌, ◌++◌}
+use mathlib.Core.List.{List, [], ◌∷◌, ◌++◌, append_assoc}
 use borrow.Author.Tests.{eq-eqb, ne_eqb}
 use Rattle.gach.specs.Header.{cc_channel, cv_channel, channel_of}
 use Rattle.bfd.specs.Packet.{packet_of}
@@ -17,13 +17,19 @@ use Rattle.message.specs.Message.{message_of}
 use Rattle.capture.specs.Lines.{decimal}
 use Rattle.capture.specs.Typing.{Put, typed}
 use Rattle.capture.proofs.Digits.{one-digit}
-use Rattle.capture.proofs.Typing.{typed-none}
+use Rattle.capture.proofs.Typing.{typed-none, typed-join}
 use Rattle.inquiry.specs.Vocabulary.{w_cc, w_cv, w_your, w_from}
 use Rattle.inquiry.specs.Words.{mep_words, message_words}
 
+-- two texts, one behind the other
+pub joined : (p : Put) (xs ys : List ℕ) → typed (typed p xs) ys ≡ typed p (xs ++ ys)
+joined p xs ys = sym (typed-join xs ys p)
+
+pub ruleset parts = (joined, append_assoc, typed-none)
+
 -- one digit put as a number
-pub digit-put : (p : Put) (n : ℕ) {r : Put} → r ≡ typed p (decimal (n % 10)) → r ≡ typed p ((48 + n % 10) ∷ [])
-digit-put p n e =
+pub digit_put : (p : Put) (n : ℕ) {r : Put} → r ≡ typed p (decimal (n % 10)) → r ≡ typed p ((48 + n % 10) ∷ [])
+digit_put p n e =
     let small : n % 10 < 10 = omega arith in
     e ∙ ap (typed p) (one-digit 19 (n % 10) small ∙ rw (mod-eq_of_lt small))
 

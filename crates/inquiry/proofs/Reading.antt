@@ -1,20 +1,25 @@
 -- Octets read one by one: a number in decimal, the first slash, the front of a word.
 -- Assumes nothing.
-use Prim.Native.Nat.{ℕ, zero, suc, ◌+◌, ◌-◌, ◌*◌, ◌^◌, ◌≤◌, ◌<◌}
+use Prim.Native.Nat.{ℕ, zero, suc, ◌+◌, ◌-◌, ◌*◌, ◌≤◌, ◌<◌}
 use native.Mathlib.Omega.{arith}
 use native.Mathlib.Numerals.{add-one}
 use mathlib.Core.Path.{◌≡◌, refl, sym, ap, ◌∙◌}
-use mathlib.Core.Bool.{Bool, true, false, cond}
+use mathlib.Core.Bool.{Bool, true, false, cond, ◌&&◌, and-false}
 use mathlib.Core.Option.{Option, none, some}
 use mathlib.Core.List.{List, [], ◌∷◌}
 use lib.Dec.{ltb, eqb}
-use lib.ListN.{length, drop, get_or}
+use lib.ListN.{length, take, drop, get_or}
 use lib.Seq.{drop-cons}
-use borrow.Author.Tests.{ltb-true, ltb-false, lt-ltb, le-ltb, eq-eqb, ne_eqb}
+use borrow.Author.Tests.{ltb-true, ltb-false, lt-ltb, le-ltb, eqb-true, eq-eqb, ne_eqb}
 use Rattle.rules.proofs.Bools.{split, no_way}
-use Rattle.inquiry.specs.declared.question.Number.{Number}
-use Rattle.inquiry.specs.declared.question.Question.{Question}
-use Rattle.inquiry.specs.Questions.{is_digit, number_from, number_in, no_number, within, up_to, numeral, slash_at, begins, label_taken, thing_taken, option_taken, word_taken}
+use Rattle.std.specs.Prelude.{Option as Held, Some, None, is_some, unwrap_or}
+use Rattle.std.specs.Cmp.Lexicographic.{pointwise}
+use Rattle.std.specs.List.{position_or_len}
+use Rattle.rules.specs.declared.Key.{Key}
+use Rattle.cause.specs.declared.Thing.{Thing}
+use Rattle.cause.specs.declared.Thing.TheVariants.{Crossing, Loss, Condition, HeldBack}
+use Rattle.inquiry.specs.declared.question.Question.{Question as Words}
+use Rattle.inquiry.specs.Questions.{Number, Question, is_digit, number_from, number_in, no_number, within, up_to, numeral, slash_at, begins, is_word, word_if, word_global, word_upto, no_such, label_taken, thing_taken, interface_taken, global_taken, upto_taken, option_taken, word_taken, no_key, thing_of, kind_in, key_in, said}
 
 -- ---- a number
 pub digit-range : (d : ℕ) → is_digit d ≡ true → (48 ≤ d) × (d < 58)
@@ -59,11 +64,15 @@ pub all_read : (most n i : ℕ) (s : List ℕ) → n ≤ most → length s ≤ i
 unfolding number_from
 all_read most n i s h l = rw (drop_all_lem i s l, le-ltb most n h)
 
-pub within-bad : (most n : ℕ) → (within most n).good ≡ false → most < n
-within-bad most n e = split (ltb most n) (λ t. ltb-true most n t) (λ t. let z : (within most n).good ≡ true = rw t in no_way z e)
+pub none-over : (most n : ℕ) → no_number ≡ within most n → most < n
+none-over most n e =
+    split (ltb most n) (λ t. ltb-true most n t) (λ t. let z : (within most n).good ≡ true = rw t in no_way z (sym (ap (λ (x : Number). x.good) e)))
 
-pub within-good : (most n : ℕ) → (within most n).good ≡ true → (n ≤ most) × ((within most n).value ≡ n)
-within-good most n e = split (ltb most n) (λ t. let z : (within most n).good ≡ false = rw t in no_way e z) (λ t. (ltb-false most n t, rw t))
+pub some-fits : (most n v : ℕ) → record { value = v; good = true } ≡ within most n → (n ≤ most) × (v ≡ n)
+some-fits most n v e =
+    split (ltb most n)
+    (λ t. let z : (within most n).good ≡ false = rw t in no_way (sym (ap (λ (x : Number). x.good) e)) z)
+    (λ t. let z : (within most n).value ≡ n = rw t in (ltb-false most n t, ap (λ (x : Number). x.value) e ∙ z))
 
 -- it is never past the greatest
 up-to-most : (most : ℕ) (o : Option ℕ) → (up_to most o).value ≤ most
@@ -74,39 +83,51 @@ pub numeral-most : (most : ℕ) (s : List ℕ) → (numeral most s).value ≤ mo
 unfolding numeral
 numeral-most most s = up-to-most most (number_in s)
 
--- ---- the first slash
-module _ (i : ℕ) (s : List ℕ) (h : i < length s) where
-  pub slash-here : get_or s i 0 ≡ 47 → slash_at (drop i s) ≡ 0
-  unfolding slash_at
-  slash-here e = rw (drop-cons s i 0 h, eq-eqb (get_or s i 0) 47 e)
+-- a number that was found is as small as was asked
+pub found-most : (most : ℕ) (s : List ℕ) (n : ℕ) → record { value = n; good = true } ≡ numeral most s → n ≤ most
+found-most most s n e = omega (arith, ap (λ (x : Number). x.value) e, numeral-most most s)
 
-  pub slash-behind : (get_or s i 0 ≡ 47 → ⊥) → slash_at (drop i s) ≡ suc (slash_at (drop (i + 1) s))
-  unfolding slash_at
-  slash-behind e = rw (add-one i, drop-cons s i 0 h, ne_eqb (get_or s i 0) 47 e)
-
-pub slash-none : (i : ℕ) (s : List ℕ) → length s ≤ i → slash_at (drop i s) ≡ 0
+-- ---- words
+-- the first slash, as the library looks for it
+slash_is : (s : List ℕ) → position_or_len (λ b. eqb b 47) s ≡ slash_at s
 unfolding slash_at
-slash-none i s h = rw (drop_all_lem i s h)
+slash_is [] = refl
+slash_is (b ∷ bs) = split (eqb b 47) (λ e. rw e) (λ e. rw e (omega (arith, slash_is bs)))
 
--- ---- the front of a word
-pub begins-short : (f w : List ℕ) → length w < length f → begins f w ≡ false
+slash-within : (s : List ℕ) → slash_at s ≤ length s
+unfolding slash_at
+slash-within [] = omega arith
+slash-within (b ∷ bs) = split (eqb b 47) (λ e. rw e (omega arith)) (λ e. rw e (omega (arith, slash-within bs)))
+
+pub slash_found : (s : List ℕ) (r : Held ℕ) → r ≡ cond (ltb (position_or_len (λ b. eqb b 47) s) (length s)) (Some (position_or_len (λ b. eqb b 47) s)) None
+    → unwrap_or r (length s) ≡ slash_at s
+slash_found s r e =
+    split (ltb (position_or_len (λ b. eqb b 47) s) (length s))
+    (λ t. rw (e, t) (slash_is s))
+    (λ t. rw (e, t) (omega (arith, ltb-false (position_or_len (λ b. eqb b 47) s) (length s) t, slash_is s, slash-within s)))
+
+-- the front of a word
+pub front_is : (f w : List ℕ) → pointwise eqb (take (length f) w) f ≡ begins f w
 unfolding begins
-begins-short [] w h = absurd (omega arith)
-begins-short (x ∷ xs) [] h = refl
-begins-short (x ∷ xs) (b ∷ bs) h = split (eqb b x) (λ e. rw e (begins-short xs bs (omega arith))) (λ e. rw e)
+front_is [] w = refl
+front_is (x ∷ xs) [] = refl
+front_is (x ∷ xs) (b ∷ bs) = ap (λ (r : Bool). eqb b x && r) (front_is xs bs)
 
-module _ (i : ℕ) (f w : List ℕ) (h : i < length f) (l : i < length w) where
-  pub begins-on : get_or w i 0 ≡ get_or f i 0 → begins (drop i f) (drop i w) ≡ begins (drop (i + 1) f) (drop (i + 1) w)
-  unfolding begins
-  begins-on e = rw (add-one i, drop-cons f i 0 h, drop-cons w i 0 l, eq-eqb (get_or w i 0) (get_or f i 0) e)
+eqb-suc : (a b : ℕ) → eqb (suc a) (suc b) ≡ eqb a b
+eqb-suc a b =
+    split (eqb a b)
+    (λ e. rw e (eq-eqb (suc a) (suc b) (ap (λ (n : ℕ). suc n) (eqb-true a b e))))
+    (λ e. rw e (ne_eqb (suc a) (suc b) (λ s. no_way (eq-eqb a b (omega arith)) e)))
 
-  pub begins-off : (get_or w i 0 ≡ get_or f i 0 → ⊥) → begins (drop i f) (drop i w) ≡ false
-  unfolding begins
-  begins-off e = rw (drop-cons f i 0 h, drop-cons w i 0 l, ne_eqb (get_or w i 0) (get_or f i 0) e)
-
-pub begins-all : (i : ℕ) (f w : List ℕ) → length f ≤ i → begins (drop i f) w ≡ true
+-- all of it
+pub word_is : (word w : List ℕ) → pointwise eqb w word ≡ is_word word w
 unfolding begins
-begins-all i f w h = rw (drop_all_lem i f h)
+word_is [] [] = refl
+word_is (x ∷ xs) [] = sym (and-false (eqb 0 (length (x ∷ xs))))
+word_is [] (b ∷ bs) = rw (ne_eqb (length (b ∷ bs)) 0 (λ e. absurd (omega arith)))
+word_is (x ∷ xs) (b ∷ bs) =
+    rw (eqb-suc (length bs) (length xs))
+    (split (eqb b x) (λ e. rw e (word_is xs bs)) (λ e. rw e (sym (and-false (eqb (length bs) (length xs))))))
 
 -- ---- the word that is taken
 yes : {A : Type 0} (b : Bool) (x y : A) → b ≡ true → cond b x y ≡ x
@@ -115,25 +136,82 @@ yes b x y e = rw e
 no : {A : Type 0} (b : Bool) (x y : A) → b ≡ false → cond b x y ≡ y
 no b x y e = rw e
 
+-- a thing that is said, or none
+by_thing : (o : Held Thing) (P : Held Thing → Type 0) → P None → P (Some Crossing) → P (Some Loss) → P (Some HeldBack) → ((k : Key) → P (Some (Condition k))) → P o
+by_thing None P n c l h k = n
+by_thing (Some Crossing) P n c l h k = c
+by_thing (Some Loss) P n c l h k = l
+by_thing (Some HeldBack) P n c l h k = h
+by_thing (Some (Condition x)) P n c l h k = k x
+
+abbrev of_kind : ℕ → Key → Thing
+of_kind n key = cond (eqb n 1) Crossing (cond (eqb n 2) Loss (cond (eqb n 3) HeldBack (Condition key)))
+
+-- a thing that is said has a number
+pub has_kind : (t : Thing) → ltb 0 (kind_in (Some t)) ≡ true
+has_kind Crossing = refl
+has_kind Loss = refl
+has_kind (Condition k) = split (eqb k.kind 1) (λ e. rw e) (λ e. rw e)
+has_kind HeldBack = refl
+
+pub no_kind : (t : Thing) → eqb (kind_in (Some t)) 0 ≡ false
+no_kind Crossing = refl
+no_kind Loss = refl
+no_kind (Condition k) = split (eqb k.kind 1) (λ e. rw e) (λ e. rw e)
+no_kind HeldBack = refl
+
+-- what is asked about
+pub thing_is : (q : Words) → unwrap_or q.thing (Condition no_key) ≡ thing_of (said q)
+unfolding thing_of
+thing_is q = by_thing q.thing (λ o. unwrap_or o (Condition no_key) ≡ of_kind (kind_in o) (key_in o)) refl refl refl refl
+    (λ k. split (eqb k.kind 1) (λ e. rw e) (λ e. rw e))
+
+-- ---- the word that is taken, by what was asked so far
+module _ (q : Words) (w : List ℕ) where
+  abbrev behind : Question
+  behind = cond (eqb (kind_in q.thing) 0) (thing_taken (said q) w) (option_taken (said q) w)
+
+  pub word_label : q.label ≡ None → label_taken (said q) w ≡ word_taken (said q) w
+  unfolding word_taken
+  word_label e = sym (no (is_some q.label) behind (label_taken (said q) w) (ap is_some e))
+
+  module _ (l : ℕ) (e : q.label ≡ Some l) where
+    behind-label : word_taken (said q) w ≡ behind
+    unfolding word_taken
+    behind-label = yes (is_some q.label) behind (label_taken (said q) w) (ap is_some e)
+
+    pub word_thing : q.thing ≡ None → thing_taken (said q) w ≡ word_taken (said q) w
+    word_thing n = sym (behind-label ∙ yes (eqb (kind_in q.thing) 0) _ _ (ap (λ (o : Held Thing). eqb (kind_in o) 0) n))
+
+    pub word_option : (t : Thing) → q.thing ≡ Some t → option_taken (said q) w ≡ word_taken (said q) w
+    word_option t s = sym (behind-label ∙ no (eqb (kind_in q.thing) 0) _ _ (ap (λ (o : Held Thing). eqb (kind_in o) 0) s ∙ no_kind t))
+
+-- words that are no question stay so
+pub word_none : (w : List ℕ) → no_such ≡ word_taken no_such w
+unfolding word_taken
+word_none w = refl
+
+pub ruleset taken = (word_label, word_thing, word_option, word_none)
+
+-- ---- the words behind the first two, by the front that is taken away
 module _ (q : Question) (w : List ℕ) where
-  abbrev behind-label : Question
-  behind-label = cond (eqb q.kind 0) (thing_taken q w) (option_taken q w)
+  begins-as : (f : List ℕ) {b : Bool} → pointwise eqb (take (length f) w) f ≡ b → begins f w ≡ b
+  begins-as f e = sym (front_is f w) ∙ e
 
-  abbrev behind-good : Question
-  behind-good = cond q.labelled behind-label (label_taken q w)
+  pub option-interface : {s : List ℕ} → pointwise eqb (take 3 w) word_if ≡ true → s ≡ drop 3 w → interface_taken q s ≡ option_taken q w
+  unfolding option_taken
+  option-interface a d = rw (d, begins-as word_if a)
 
-  pub word-label : q.good ≡ true → q.labelled ≡ false → word_taken q w ≡ label_taken q w
-  unfolding word_taken
-  word-label g l = yes q.good behind-good q g ∙ no q.labelled behind-label (label_taken q w) l
+  module _ (a : pointwise eqb (take 3 w) word_if ≡ false) where
+    pub option-global : {s : List ℕ} → pointwise eqb (take 7 w) word_global ≡ true → s ≡ drop 7 w → global_taken q s ≡ option_taken q w
+    unfolding option_taken
+    option-global b d = rw (d, begins-as word_if a, begins-as word_global b)
 
-  pub word-thing : q.good ≡ true → q.labelled ≡ true → q.kind ≡ 0 → word_taken q w ≡ thing_taken q w
-  unfolding word_taken
-  word-thing g l k =
-      yes q.good behind-good q g ∙ yes q.labelled behind-label (label_taken q w) l
-      ∙ yes (eqb q.kind 0) (thing_taken q w) (option_taken q w) (eq-eqb q.kind 0 k)
+    module _ (b : pointwise eqb (take 7 w) word_global ≡ false) where
+      pub option-upto : {s : List ℕ} → pointwise eqb (take 5 w) word_upto ≡ true → s ≡ drop 5 w → upto_taken q s ≡ option_taken q w
+      unfolding option_taken
+      option-upto e d = rw (d, begins-as word_if a, begins-as word_global b, begins-as word_upto e)
 
-  pub word-option : q.good ≡ true → q.labelled ≡ true → (q.kind ≡ 0 → ⊥) → word_taken q w ≡ option_taken q w
-  unfolding word_taken
-  word-option g l k =
-      yes q.good behind-good q g ∙ yes q.labelled behind-label (label_taken q w) l
-      ∙ no (eqb q.kind 0) (thing_taken q w) (option_taken q w) (ne_eqb q.kind 0 k)
+      pub option-none : pointwise eqb (take 5 w) word_upto ≡ false → no_such ≡ option_taken q w
+      unfolding option_taken
+      option-none e = rw (begins-as word_if a, begins-as word_global b, begins-as word_upto e)

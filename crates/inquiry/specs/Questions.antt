@@ -1,12 +1,11 @@
 -- The question that the arguments of `why` are, word by word.
 -- Assumes nothing.
-use Rattle.std.specs.Prelude.{ℕ, zero, suc, ◌+◌, ◌-◌, ◌*◌, ◌^◌, Bool, true, false, cond, not, ◌&&◌, List, [], ◌∷◌, eqb, ltb, length, take, drop}
+use Rattle.std.specs.Prelude.{ℕ, suc, ◌+◌, ◌-◌, ◌*◌, ◌^◌, Bool, true, false, cond, not, ◌&&◌, List, [], ◌∷◌, eqb, ltb, length, take, drop, Option as Held, Some, None, is_some, unwrap_or}
 use Rattle.std.proofs.Math.Option.{Option, none, some}
 use Rattle.rules.specs.declared.Key.{Key}
 use Rattle.cause.specs.declared.Thing.{Thing}
 use Rattle.cause.specs.declared.Thing.TheVariants.{Crossing, Loss, Condition, HeldBack}
-use Rattle.inquiry.specs.declared.question.Number.{Number}
-use Rattle.inquiry.specs.declared.question.Question.{Question}
+use Rattle.inquiry.specs.declared.question.Question.{Question as Words}
 
 -- ---- a number in decimal
 abbrev pub is_digit : ℕ → Bool
@@ -30,6 +29,11 @@ all_digits (d ∷ ds) = is_digit d && all_digits ds
 unfoldable pub worth : List ℕ → ℕ
 worth [] = 0
 worth (d ∷ ds) = (d - 48) * 10 ^ length ds + worth ds
+
+-- what octets are as a number, and whether they are one
+pub record Number : Type 0 where
+  pub value : ℕ
+  pub good : Bool
 
 abbrev pub no_number : Number
 no_number = record { value = 0; good = false }
@@ -94,6 +98,17 @@ abbrev pub word_upto : List ℕ
 word_upto = 117 ∷ 112 ∷ 116 ∷ 111 ∷ 61 ∷ []
 
 -- ---- what is asked
+-- what the words have asked so far: about which label, about what (0 not said yet, 1 crossing, 2 loss, 3 held back, 4 AIS, 5 LKR), of AIS and LKR with which key, up to
+-- which record, and whether that was said. Not good: these words are no question
+pub record Question : Type 0 where
+  pub key : Key
+  pub upto : ℕ
+  pub label : ℕ
+  pub kind : ℕ
+  pub labelled : Bool
+  pub bounded : Bool
+  pub good : Bool
+
 abbrev pub key_anew_of : ℕ → Key
 key_anew_of kind = record { node = 0; interface = 0; global = 0; kind = kind; present = 0; carrier = 0 }
 
@@ -200,3 +215,40 @@ is_asked q = q.good && ltb 0 q.kind
 
 unfoldable pub thing_of : Question → Thing
 thing_of q = cond (eqb q.kind 1) Crossing (cond (eqb q.kind 2) Loss (cond (eqb q.kind 3) HeldBack (Condition q.key)))
+
+-- ---- as the code holds them
+-- a number that was read, or none
+abbrev pub numbered : Held ℕ → Number
+numbered None = no_number
+numbered (Some n) = record { value = n; good = true }
+
+-- a thing by its number, and its key
+abbrev pub kind_in : Held Thing → ℕ
+kind_in None = 0
+kind_in (Some Crossing) = 1
+kind_in (Some Loss) = 2
+kind_in (Some HeldBack) = 3
+kind_in (Some (Condition key)) = cond (eqb key.kind 1) 4 5
+
+abbrev pub key_in : Held Thing → Key
+key_in None = no_key
+key_in (Some Crossing) = no_key
+key_in (Some Loss) = no_key
+key_in (Some HeldBack) = no_key
+key_in (Some (Condition key)) = key
+
+abbrev pub said : Words → Question
+said q =
+    record {
+      key = key_in q.thing;
+      upto = unwrap_or q.upto 18446744073709551615;
+      label = unwrap_or q.label 0;
+      kind = kind_in q.thing;
+      labelled = is_some q.label;
+      bounded = is_some q.upto;
+      good = true;
+    }
+
+abbrev pub question_in : Held Words → Question
+question_in None = no_such
+question_in (Some q) = said q

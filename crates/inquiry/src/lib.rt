@@ -6,6 +6,8 @@ mod question;
 mod search;
 mod words;
 
-pub use question::{Number, Question, is_asked, no_question, number_in, take_word, thing_of};
+pub use question::{
+    Question, is_asked, label_of, no_question, number_in, take_word, thing_of, upto_of,
+};
 pub use search::{Search, ended, got, put_text, start};
 pub use words::put_usage;

@@ -3,23 +3,27 @@ ghost use Rattle.std.specs.Prelude.{◌≡◌, cond, [], ◌∷◌, ◌++◌, �
 ghost use Rattle.message.specs.Message.{message_of};
 ghost use Rattle.capture.specs.Lines.{decimal};
 ghost use Rattle.capture.specs.Typing.{typed};
+ghost use Rattle.octets.specs.Refusals.{number_of};
 ghost use Rattle.cause.specs.FromMarks.{cause_from};
 ghost use Rattle.trace.specs.Asking.{found_in};
 ghost use Rattle.inquiry.specs.Vocabulary.{w_slash, w_from, w_cv, w_your, w_ends_at, w_stood, w_not_open, w_is_not_open, w_ais, w_lkr, w_link_down, w_interface, w_global, w_bad_header, w_usage, w_line};
 ghost use Rattle.inquiry.specs.Words.{pair_words, mep_words, message_words, only_if, padded, seconds, which_front, which_line, age_line, end_line, absent_words, refused_line, telling, cut_line};
 ghost use Rattle.inquiry.specs.Telling.{timed_words_by, place_words, words_from, telling_from};
 
+// Each puts its words behind those that are there and says where they end: buffer and place stay two parameters, as `typed`
+// and `capture`'s own functions take them.
 use capture::{put_decimal, put_words};
-use cause::{Cause, Marks, Thing, WhyAnswer};
+use cause::{Cause, Marks, Thing};
 use conditions::Condition;
 use cv::MepId;
 use gach::{CC_CHANNEL, CV_CHANNEL};
-use octets::{get_u16, get_u32};
+use octets::{Refusal, get_u16, get_u32};
 use rules::Key;
 use session::Session;
 use trace::Found;
 
 // The last digit of a number.
+#[tactic(auto, using(crate::proofs::Putting::digit_put))]
 fn put_digit(out: &mut [u8], at: usize, n: u64) -> usize
     ensures { record { buffer = out.new; at = result } ≡ typed (record { buffer = out.old; at = at }) ((48 + n % 10) ∷ []) }
 {
@@ -27,6 +31,7 @@ fn put_digit(out: &mut [u8], at: usize, n: u64) -> usize
 }
 
 // Its last six, noughts among them.
+#[tactic(auto, using(crate::proofs::Putting::parts), unfolding(crate::specs::Words::padded))]
 fn put_six(out: &mut [u8], at: usize, n: u64) -> usize
     ensures { record { buffer = out.new; at = result } ≡ typed (record { buffer = out.old; at = at }) (padded 6 n) }
 {
@@ -43,6 +48,7 @@ fn put_six(out: &mut [u8], at: usize, n: u64) -> usize
 }
 
 // Microseconds as seconds.
+#[tactic(auto, using(crate::proofs::Putting::parts))]
 fn put_seconds(out: &mut [u8], at: usize, n: u64) -> usize
     ensures { record { buffer = out.new; at = result } ≡ typed (record { buffer = out.old; at = at }) (seconds n) }
 {
@@ -52,6 +58,7 @@ fn put_seconds(out: &mut [u8], at: usize, n: u64) -> usize
     put_words(out, c, b" s")
 }
 
+#[tactic(auto, using(crate::proofs::Putting::parts))]
 fn put_pair(out: &mut [u8], at: usize, a: u32, b: u32) -> usize
     ensures { record { buffer = out.new; at = result } ≡ typed (record { buffer = out.old; at = at }) (pair_words a b) }
 {
@@ -61,6 +68,7 @@ fn put_pair(out: &mut [u8], at: usize, a: u32, b: u32) -> usize
 }
 
 // What a MEP-ID is of, its Global_ID and Node.
+#[tactic(auto, using(crate::proofs::Putting::parts))]
 fn put_node(out: &mut [u8], at: usize, name: &[u8], id: MepId) -> usize
     ensures { record { buffer = out.new; at = result } ≡ typed (record { buffer = out.old; at = at }) (name.now ++ pair_words id.global id.node ++ w_slash) }
 {
@@ -70,21 +78,27 @@ fn put_node(out: &mut [u8], at: usize, name: &[u8], id: MepId) -> usize
 }
 
 // A MEP-ID; of an LSP tunnel and LSP number stand in one.
+#[tactic(auto, using(crate::proofs::Putting::parts), unfolding(crate::specs::Words::mep_words))]
 fn put_mep(out: &mut [u8], at: usize, id: MepId) -> usize
     ensures { record { buffer = out.new; at = result } ≡ typed (record { buffer = out.old; at = at }) (mep_words id) }
 {
-    if id.kind == 0 {
-        let a = put_node(&mut *out, at, b"Section ", id);
-        return put_decimal(out, a, id.local as u64);
+    match id.kind {
+        0 => {
+            let a = put_node(&mut *out, at, b"Section ", id);
+            put_decimal(out, a, id.local as u64)
+        }
+        1 => {
+            let b = put_node(&mut *out, at, b"LSP ", id);
+            put_pair(out, b, id.local / 65536, id.local % 65536)
+        }
+        _ => {
+            let c = put_node(&mut *out, at, b"pseudowire ", id);
+            put_decimal(out, c, id.local as u64)
+        }
     }
-    if id.kind == 1 {
-        let b = put_node(&mut *out, at, b"LSP ", id);
-        return put_pair(out, b, id.local / 65536, id.local % 65536);
-    }
-    let c = put_node(&mut *out, at, b"pseudowire ", id);
-    put_decimal(out, c, id.local as u64)
 }
 
+#[tactic(auto, using(crate::proofs::Putting::parts))]
 fn put_cv(out: &mut [u8], at: usize, your: u32, id: MepId) -> usize
     ensures { record { buffer = out.new; at = result } ≡ typed (record { buffer = out.old; at = at }) (w_cv ++ w_your ++ decimal your ++ w_from ++ mep_words id) }
 {
@@ -95,40 +109,43 @@ fn put_cv(out: &mut [u8], at: usize, your: u32, id: MepId) -> usize
 }
 
 // A crossed message, by its channel.
+#[tactic(auto, using(capture::proofs::Typing::words), unfolding(crate::specs::Words::message_words, message::specs::Message::message_of))]
 fn put_message(out: &mut [u8], at: usize, m: &[u8]) -> usize
     ensures { record { buffer = out.new; at = result } ≡ typed (record { buffer = out.old; at = at }) (message_words (message_of m.now)) }
 {
-    let channel = get_u16(m, 2);
     let your = get_u32(m, 12);
-    if channel == CC_CHANNEL {
-        let a = put_words(&mut *out, at, b"CC, Your ");
-        return put_decimal(out, a, your as u64);
+    match get_u16(m, 2) {
+        CC_CHANNEL => {
+            let a = put_words(&mut *out, at, b"CC, Your ");
+            put_decimal(out, a, your as u64)
+        }
+        CV_CHANNEL => put_cv(out, at, your, cv::mep_id_at(cv::mep_part(m), 0)),
+        _ => at,
     }
-    if channel == CV_CHANNEL {
-        let id = cv::mep_id_at(cv::mep_part(m), 0);
-        return put_cv(out, at, your, id);
-    }
-    at
 }
 
 fn put_fault_kind(out: &mut [u8], at: usize, kind: u8) -> usize
     ensures { record { buffer = out.new; at = result } ≡ typed (record { buffer = out.old; at = at }) (cond (eqb kind 1) w_ais w_lkr) }
 {
     if kind == 1 {
-        return put_words(out, at, b"AIS");
+        put_words(out, at, b"AIS")
+    } else {
+        put_words(out, at, b"LKR")
     }
-    put_words(out, at, b"LKR")
 }
 
+#[tactic(auto, using(capture::proofs::Typing::words))]
 fn put_link_down(out: &mut [u8], at: usize, linkdown: u8) -> usize
     ensures { record { buffer = out.new; at = result } ≡ typed (record { buffer = out.old; at = at }) (only_if (eqb linkdown 1) w_link_down) }
 {
     if linkdown == 1 {
-        return put_words(out, at, b", L");
+        put_words(out, at, b", L")
+    } else {
+        at
     }
-    at
 }
 
+#[tactic(auto, using(crate::proofs::Putting::parts))]
 fn put_interface(out: &mut [u8], at: usize, key: Key) -> usize
     ensures { record { buffer = out.new; at = result } ≡ typed (record { buffer = out.old; at = at }) (only_if (eqb key.present 1) (w_interface ++ pair_words key.node key.interface)) }
 {
@@ -139,6 +156,7 @@ fn put_interface(out: &mut [u8], at: usize, key: Key) -> usize
     at
 }
 
+#[tactic(auto, using(crate::proofs::Putting::parts))]
 fn put_global(out: &mut [u8], at: usize, key: Key) -> usize
     ensures { record { buffer = out.new; at = result } ≡ typed (record { buffer = out.old; at = at }) (only_if (eqb key.carrier 1) (w_global ++ decimal key.global)) }
 {
@@ -150,6 +168,7 @@ fn put_global(out: &mut [u8], at: usize, key: Key) -> usize
 }
 
 // A fault message: type, refresh and L, and the rest of its key.
+#[tactic(auto, using(crate::proofs::Putting::parts), unfolding(crate::specs::Words::condition_words))]
 fn put_condition(out: &mut [u8], at: usize, c: Condition) -> usize
     ensures { record { buffer = out.new; at = result } ≡ typed (record { buffer = out.old; at = at }) (place_words c) }
 {
@@ -166,19 +185,16 @@ fn put_condition(out: &mut [u8], at: usize, c: Condition) -> usize
 fn put_timed(out: &mut [u8], at: usize, by: u8) -> usize
     ensures { record { buffer = out.new; at = result } ≡ typed (record { buffer = out.old; at = at }) (timed_words_by by) }
 {
-    if by == 0 {
-        return put_words(out, at, b"opening");
+    match by {
+        0 => put_words(out, at, b"opening"),
+        1 => put_words(out, at, b"unlock"),
+        2 => put_words(out, at, b"CC"),
+        _ => put_words(out, at, b"CV"),
     }
-    if by == 1 {
-        return put_words(out, at, b"unlock");
-    }
-    if by == 2 {
-        return put_words(out, at, b"CC");
-    }
-    put_words(out, at, b"CV")
 }
 
 // The first line up to what the record was.
+#[tactic(auto, using(crate::proofs::Putting::parts))]
 fn put_which(out: &mut [u8], at: usize, number: u64, reading: u64) -> usize
     ensures { record { buffer = out.new; at = result } ≡ typed (record { buffer = out.old; at = at }) (which_front number reading) }
 {
@@ -189,6 +205,7 @@ fn put_which(out: &mut [u8], at: usize, number: u64, reading: u64) -> usize
     put_words(out, d, b", ")
 }
 
+#[tactic(auto, using(crate::proofs::Putting::parts))]
 fn put_age(out: &mut [u8], at: usize, age: u64) -> usize
     ensures { record { buffer = out.new; at = result } ≡ typed (record { buffer = out.old; at = at }) (age_line age) }
 {
@@ -197,6 +214,7 @@ fn put_age(out: &mut [u8], at: usize, age: u64) -> usize
     put_words(out, b, b"\n")
 }
 
+#[tactic(auto, using(crate::proofs::Putting::parts))]
 fn put_end_at(out: &mut [u8], at: usize, end: u64, words: &[u8]) -> usize
     ensures { record { buffer = out.new; at = result } ≡ typed (record { buffer = out.old; at = at }) (w_ends_at ++ decimal end ++ words.now ++ w_line) }
 {
@@ -206,6 +224,7 @@ fn put_end_at(out: &mut [u8], at: usize, end: u64, words: &[u8]) -> usize
     put_words(out, c, b"\n")
 }
 
+#[tactic(auto, using(crate::proofs::Putting::parts))]
 fn put_stood(out: &mut [u8], at: usize, from: u64) -> usize
     ensures { record { buffer = out.new; at = result } ≡ typed (record { buffer = out.old; at = at }) (w_stood ++ decimal from ++ w_line) }
 {
@@ -241,6 +260,7 @@ fn put_absent(out: &mut [u8], at: usize, thing: Thing) -> usize
     }
 }
 
+#[tactic(auto, using(crate::proofs::Putting::parts))]
 fn put_not_open(out: &mut [u8], at: usize, label: u32) -> usize
     ensures { record { buffer = out.new; at = result } ≡ typed (record { buffer = out.old; at = at }) (w_not_open ++ decimal label ++ w_is_not_open ++ w_line) }
 {
@@ -251,104 +271,82 @@ fn put_not_open(out: &mut [u8], at: usize, label: u32) -> usize
 }
 
 // A refusal: 2, else 15.
-fn put_refused(out: &mut [u8], at: usize, number: u32, label: u32, thing: Thing) -> usize
-    ensures { record { buffer = out.new; at = result } ≡ typed (record { buffer = out.old; at = at }) (refused_line number label thing) }
+fn put_refused(out: &mut [u8], at: usize, refusal: Refusal, label: u32, thing: Thing) -> usize
+    ensures { record { buffer = out.new; at = result } ≡ typed (record { buffer = out.old; at = at }) (refused_line (number_of refusal) label thing) }
 {
-    if number == 2 {
-        return put_not_open(out, at, label);
+    match refusal {
+        Refusal::NotOpen => put_not_open(out, at, label),
+        _ => put_absent(out, at, thing),
     }
-    put_absent(out, at, thing)
 }
 
-// What the record was that is named, from the marks, the session's record and what is kept of its last
-// crossed message.
-fn put_reason(
-    out: &mut [u8],
-    at: usize,
-    m: Marks,
-    r: Session,
-    clock: u64,
-    kept: &[u8],
-    thing: Thing,
-) -> usize
-    ensures { record { buffer = out.new; at = result } ≡ typed (record { buffer = out.old; at = at }) (words_from m r clock kept.now thing) }
+// What a session is asked about: the label and the thing, the marks, the clock, and what is kept of its
+// last crossed message.
+#[derive(Clone, Copy)]
+pub struct About<'a> {
+    pub label: u32,
+    pub thing: Thing,
+    pub marks: Marks,
+    pub clock: u64,
+    pub kept: &'a [u8],
+}
+
+// What the record was that is named, from the session's record too.
+#[tactic(auto, unfolding(crate::specs::Telling::words_from))]
+fn put_reason(out: &mut [u8], at: usize, x: About<'_>, r: Session) -> usize
+    ensures { record { buffer = out.new; at = result } ≡ typed (record { buffer = out.old; at = at }) (words_from x.entry.marks r x.entry.clock x.entry.kept.now x.entry.thing) }
 {
-    let places = r.conditions;
-    match thing {
-        Thing::Crossing => put_message(out, at, octets::part(kept, 0, m.size)),
-        Thing::Loss => put_timed(out, at, m.by),
+    match x.thing {
+        Thing::Crossing => put_message(out, at, octets::part(x.kept, 0, x.marks.size)),
+        Thing::Loss => put_timed(out, at, x.marks.by),
         Thing::Condition(key) => {
-            let named = cause::best_of_key(m, places, clock, key);
+            let named = cause::best_of_key(x.marks, r.conditions, x.clock, key);
             put_condition(out, at, named.place)
         }
         Thing::HeldBack => {
-            let held = cause::best_standing(m, places, clock);
+            let held = cause::best_standing(x.marks, r.conditions, x.clock);
             put_condition(out, at, held.place)
         }
     }
 }
 
 // The three lines.
-fn put_because(
-    out: &mut [u8],
-    at: usize,
-    c: Cause,
-    m: Marks,
-    r: Session,
-    clock: u64,
-    kept: &[u8],
-    thing: Thing,
-) -> usize
-    ensures { record { buffer = out.new; at = result } ≡ typed (record { buffer = out.old; at = at }) (which_line c (words_from m r clock kept.now thing) ++ age_line c.age ++ end_line thing c.end) }
+#[tactic(auto, using(crate::proofs::Putting::parts))]
+fn put_because(out: &mut [u8], at: usize, c: Cause, x: About<'_>, r: Session) -> usize
+    ensures { record { buffer = out.new; at = result } ≡ typed (record { buffer = out.old; at = at }) (which_line c (words_from x.entry.marks r x.entry.clock x.entry.kept.now x.entry.thing) ++ age_line c.age ++ end_line x.entry.thing c.end) }
 {
     let a = put_which(&mut *out, at, c.number, c.reading);
-    let b = put_reason(&mut *out, a, m, r, clock, kept, thing);
+    let b = put_reason(&mut *out, a, x, r);
     let d = put_words(&mut *out, b, b"\n");
     let e = put_age(&mut *out, d, c.age);
-    put_end(out, e, thing, c.end)
+    put_end(out, e, x.thing, c.end)
 }
 
 // Of an open session.
-fn put_answer(
-    out: &mut [u8],
-    at: usize,
-    m: Marks,
-    r: Session,
-    clock: u64,
-    kept: &[u8],
-    label: u32,
-    thing: Thing,
-) -> usize
-    ensures { record { buffer = out.new; at = result } ≡ typed (record { buffer = out.old; at = at }) (telling (cause_from m r clock thing) (words_from m r clock kept.now thing) label thing) }
+#[tactic(auto, unfolding(crate::specs::Words::telling))]
+fn put_answer(out: &mut [u8], at: usize, x: About<'_>, r: Session) -> usize
+    ensures { record { buffer = out.new; at = result } ≡ typed (record { buffer = out.old; at = at }) (telling (cause_from x.entry.marks r x.entry.clock x.entry.thing) (words_from x.entry.marks r x.entry.clock x.entry.kept.now x.entry.thing) x.entry.label x.entry.thing) }
 {
-    let a = cause::cause_from(m, r, clock, thing);
-    match a {
-        WhyAnswer::Because(c) => put_because(out, at, c, m, r, clock, kept, thing),
-        WhyAnswer::Refused(n) => put_refused(out, at, n, label, thing),
+    match cause::cause_from(x.marks, r, x.clock, x.thing) {
+        Ok(c) => put_because(out, at, c, x, r),
+        Err(refusal) => put_refused(out, at, refusal, x.label, x.thing),
     }
 }
 
 // The text of the answer.
-pub fn put_telling(
-    out: &mut [u8],
-    at: usize,
-    f: Found,
-    m: Marks,
-    clock: u64,
-    kept: &[u8],
-    label: u32,
-    thing: Thing,
-) -> usize
-    ensures { record { buffer = out.new; at = result } ≡ typed (record { buffer = out.old; at = at }) (telling_from m (found_in f) clock kept.now label thing) }
+#[tactic(auto, unfolding(crate::specs::Telling::telling_from, crate::specs::Words::telling))]
+pub fn put_telling(out: &mut [u8], at: usize, f: Found, x: About<'_>) -> usize
+    ensures { record { buffer = out.new; at = result } ≡ typed (record { buffer = out.old; at = at }) (telling_from x.entry.marks (found_in f) x.entry.clock x.entry.kept.now x.entry.label x.entry.thing) }
 {
-    let r = f.session;
     if f.there {
-        return put_answer(out, at, m, r, clock, kept, label, thing);
+        put_answer(out, at, x, f.session)
+    } else {
+        put_refused(out, at, Refusal::NotOpen, x.label, x.thing)
     }
-    put_refused(out, at, 2, label, thing)
 }
 
 // A capture that is cut behind that many records.
+#[tactic(auto, using(crate::proofs::Putting::parts))]
 pub fn put_cut(out: &mut [u8], at: usize, number: u64) -> usize
     ensures { record { buffer = out.new; at = result } ≡ typed (record { buffer = out.old; at = at }) (cut_line number) }
 {

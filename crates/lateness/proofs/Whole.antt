@@ -9,12 +9,11 @@ use Rattle.rules.specs.Calls.{Call}
 use Rattle.session.specs.declared.Session.{Session}
 use Rattle.table.specs.Table.{absent, emptied}
 use Rattle.capture.specs.Records.{header_fits}
-use Rattle.meaning.specs.Histories.{History, start}
+use Rattle.meaning.specs.Histories.{start}
 use Rattle.meaning.specs.Edges.{told-all}
 use Rattle.text.specs.Text.{parsed}
 use Rattle.cause.specs.Pasts.{past_of}
-use Rattle.account.specs.declared.Account.{Account}
-use Rattle.account.specs.declared.Spaced.{Spaced}
+use Rattle.account.specs.Figures.{Spaced}
 use Rattle.account.specs.Figures.{none as no_pair, exact}
 use Rattle.account.specs.Accounts.{kept as kept_as, finished_of}
 use Rattle.account.proofs.Joined.{account-none, finished-account}

@@ -3,7 +3,7 @@
 -- Assumes nothing.
 use Rattle.std.specs.Prelude.{ℕ, ◌≡◌, true, false, List, [], ◌∷◌, ℤ, pos, negsuc}
 use Rattle.account.specs.declared.Account.{Account}
-use Rattle.account.specs.declared.Spaced.{Spaced}
+use Rattle.account.specs.Figures.{Spaced}
 use Rattle.account.specs.Figures.{none, refused}
 use Rattle.account.specs.Accounts.{kept, spent, combined, finished_of}
 use Rattle.interval.specs.Pacing.{hearing}

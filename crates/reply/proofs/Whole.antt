@@ -1,14 +1,17 @@
 -- The run over a whole capture in one slice answers what the history of the capture says.
 -- Assumes nothing.
-use Prim.Native.Nat.{ℕ, zero, suc, ◌+◌, ◌-◌, ◌≤◌, ◌<◌, ◌^◌}
+use Prim.Native.Nat.{ℕ, zero, suc, ◌-◌, ◌≤◌, ◌<◌, ◌^◌}
 use native.Mathlib.Omega.{arith}
 use mathlib.Core.Path.{◌≡◌, refl, sym, ap, subst, ◌∙◌}
 use mathlib.Core.Bool.{true, false, cond}
 use mathlib.Core.Option.{Option, none, some}
-use mathlib.Core.List.{List, [], ◌∷◌}
+use mathlib.Core.List.{List}
 use lib.Dec.{ltb}
 use lib.ListN.{length, get_or, take, drop, replicate, length-replicate, length-drop}
+use Rattle.std.specs.Prelude.{Result}
 use Rattle.octets.specs.Choice.{Answer, refused}
+use Rattle.octets.specs.Refusals.{answer_in}
+use Rattle.octets.specs.declared.refusals.Refusal.{Refusal}
 use Rattle.rules.specs.Calls.{Call}
 use Rattle.rules.proofs.Bools.{split}
 use Rattle.session.specs.declared.Session.{Session}
@@ -18,14 +21,13 @@ use Rattle.capture.specs.Records.{header_fits, next_in, is_whole, size_of}
 use Rattle.meaning.specs.Histories.{start, story}
 use Rattle.meaning.specs.Edges.{told-all}
 use Rattle.meaning.proofs.Sim.{sim-order}
-use Rattle.text.specs.Text.{Parsed, parsed_by, parsed}
+use Rattle.text.specs.Text.{parsed_by, parsed}
 use Rattle.text.proofs.Parsing.{whole-size}
 use Rattle.cause.specs.declared.Cause.{Cause}
 use Rattle.cause.specs.declared.Thing.{Thing}
 use Rattle.cause.specs.Causes.{cause_of}
 use Rattle.cause.specs.Pasts.{past_of, past_up_to}
-use Rattle.cause.specs.declared.WhyAnswer.{WhyAnswer}
-use Rattle.cause.specs.FromMarks.{said, why_from}
+use Rattle.cause.specs.FromMarks.{why_from}
 use Rattle.cause.specs.Tracing.{Trace, trace_all, trace_start, why_after}
 use Rattle.cause.proofs.Answers.{follows-calls, trace-answers}
 use Rattle.cause.proofs.Pasts.{past-up-to-all}
@@ -126,7 +128,7 @@ answered thing w = why_from w.tracing.marks (found_in (found_by (left w))) w.tra
 -- by the parts of the code
 pub answers : (capture kept ks : List ℕ) (l : ℕ) (thing : Thing) → header_fits capture ≡ true → (upto : ℕ) → (upto ≡ length capture) × (upto < 2 ^ 64)
     → (b : Asked) → b ≡ beginning l upto → (t : Asked) → record { row = t.row; tracing = t.tracing; kept = ks } ≡ trace_of b.row b.tracing capture kept
-    → (f : Found) → f ≡ found_by t → (r : WhyAnswer) → said r ≡ why_from t.tracing.marks (found_in f) t.tracing.fed.head.clock thing → said r ≡ cause_of (past_of capture) l thing
+    → (f : Found) → f ≡ found_by t → (r : Result Cause Refusal) → answer_in r ≡ why_from t.tracing.marks (found_in f) t.tracing.fed.head.clock thing → answer_in r ≡ cause_of (past_of capture) l thing
 answers capture kept ks l thing fits upto u b eb t et f ef r er =
     er
     ∙ ap (λ (g : Found). why_from t.tracing.marks (found_in g) t.tracing.fed.head.clock thing) ef

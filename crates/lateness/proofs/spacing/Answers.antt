@@ -1,5 +1,5 @@
 use mathlib.Core.Path.{sym, ap, ◌∙◌}
-use Rattle.account.specs.Accounts.{finished_of}
+use Rattle.account.specs.Accounts.{spaced_in, finished_of}
 use Rattle.lateness.proofs.Whole.{unfit, spaces}
 use Rattle.lateness.proofs.spacing.Goals as goal
 
@@ -15,4 +15,4 @@ returns c =
     let s = c.args in
     spaces s.capture.now s.label (sym c.header_fits.ensures ∙ c.if-not-header_fits.false)
     c.begin.result c.begin.ensures c.pace-t.result c.pace-t.ensures
-    c.finish-2.result c.finish-2.ensures
+    (spaced_in c.finish-2.result) c.finish-2.ensures

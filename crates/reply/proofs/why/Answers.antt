@@ -1,6 +1,5 @@
-use mathlib.Core.Path.{sym, ◌∙◌}
+use mathlib.Core.Path.{refl, sym, ◌∙◌}
 use borrow.Author.Rules.{rules}
-use borrow.Author.Tests.{not-true, not-false}
 use Rattle.reply.proofs.Whole.{unfit, answers}
 use Rattle.reply.proofs.why.Goals as goal
 
@@ -11,5 +10,5 @@ returns-then-not-header_fits c = let s = c.args in
 pub returns : goal.returns
 returns c = let s = c.args in
     answers s.capture.now _ _ s.label s.thing (sym c.header_fits.ensures ∙ c.if-not-header_fits.false)
-    c.most_records-upto.result c.most_records-upto.ensures c.begin.result c.begin.ensures c.trace-t.result c.trace-t.ensures
+    _ (refl, search rules) c.begin.result c.begin.ensures c.trace-t.result c.trace-t.ensures
     c.record_asked.result c.record_asked.ensures c.answer_from.result c.answer_from.ensures

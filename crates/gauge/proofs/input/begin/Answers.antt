@@ -1,4 +1,5 @@
-use mathlib.Core.Path.{sym, ◌∙◌}
+use mathlib.Core.Path.{refl, sym, ◌∙◌}
+use Rattle.gauge.specs.Gauging.{settled, header_read}
 use Rattle.gauge.proofs.OneRead.{already, not-begun, waits, wrong, right}
 use Rattle.gauge.proofs.input.begin.Goals as goal
 
@@ -14,13 +15,13 @@ pub returns-then-not-header_fits : goal.returns-then-not-header_fits
 returns-then-not-header_fits c =
     let s = c.args in
     wrong s.g s.buf.now c.within-n.result c.within-n.ensures c.if-n-lt8.false
-    (sym c.header_fits.ensures ∙ c.if-not-header_fits.true) c.settle.result c.settle.ensures
+    (sym c.header_fits.ensures ∙ c.if-not-header_fits.true) (settled s.g) refl
     ∙ not-begun s.g s.buf.now c.if-g.false
 
 pub returns : goal.returns
 returns c =
     let s = c.args in
     right s.g s.buf.now c.within-n.result c.within-n.ensures c.if-n-lt8.false
-    (sym c.header_fits.ensures ∙ c.if-not-header_fits.false) c.shift-have.result c.shift-have.new.buf c.shift-have.ensures
-    c.header_read.result c.header_read.ensures
+    (sym c.header_fits.ensures ∙ c.if-not-header_fits.false) c.shift.result c.shift.new.buf c.shift.ensures
+    (header_read s.g c.shift.result) refl
     ∙ not-begun s.g s.buf.now c.if-g.false

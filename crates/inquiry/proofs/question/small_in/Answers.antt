@@ -1,10 +1,8 @@
 use native.Mathlib.Omega.{arith}
-use borrow.Author.Rules.{rules}
-use mathlib.Core.Path.{ap}
-use Rattle.inquiry.specs.declared.question.Number.{Number}
-use Rattle.inquiry.proofs.Reading.{numeral-most}
+use mathlib.Core.Path.{sym, ap, ◌∙◌}
+use Rattle.inquiry.specs.Questions.{numbered}
+use Rattle.inquiry.proofs.Reading.{found-most}
 use Rattle.inquiry.proofs.question.small_in.Goals as goal
 
 pub overflow_cast-result : goal.overflow_cast-result
-overflow_cast-result c = let s = c.args.s.now in
-    omega (arith, ap (λ (x : Number). x.value) c.number_in-n.ensures, numeral-most 4294967295 s)
+overflow_cast-result c = omega (arith, found-most _ c.args.s.now c.in_ok-n.n (ap numbered (sym c.in_ok-n.was) ∙ c.number_in.ensures))

@@ -1,20 +1,23 @@
-use mathlib.Core.Path.{sym, ◌∙◌}
-use borrow.Author.Rules.{rules}
-use Rattle.inquiry.specs.Questions.{option_taken}
+use mathlib.Core.Path.{◌∙◌}
+use Rattle.inquiry.specs.Questions.{said}
+use Rattle.inquiry.proofs.Reading.{option-interface, option-global, option-upto, option-none}
 use Rattle.inquiry.proofs.question.take_option.Goals as goal
 
-pub returns-then-does_begin : goal.returns-then-does_begin
-unfolding option_taken
-returns-then-does_begin c = rw (sym c.does_begin.ensures ∙ c.if-does_begin.true) (c.take_interface.ensures ∙ rw c.from_place.ensures)
+pub returns-in-Some : goal.returns-in-Some
+returns-in-Some c = let a = c.args in
+    let s = c.in-Some.ensures.cases in
+    c.take_interface.ensures ∙ option-interface (said a.q) a.w.now s.0 s.1
 
-pub returns-then-does_begin-2 : goal.returns-then-does_begin-2
-unfolding option_taken
-returns-then-does_begin-2 c = rw (sym c.does_begin.ensures ∙ c.if-does_begin.false, sym c.does_begin-2.ensures ∙ c.if-does_begin-2.true) (c.take_global.ensures ∙ rw c.from_place-then-does_begin-2.ensures)
+pub returns-in-Some-strip_prefix : goal.returns-in-Some-strip_prefix
+returns-in-Some-strip_prefix c = let a = c.args in
+    let s = c.in-Some-strip_prefix.ensures.cases in
+    c.take_global.ensures ∙ option-global (said a.q) a.w.now c.in_default.ensures.cases s.0 s.1
 
-pub returns-then-does_begin-3 : goal.returns-then-does_begin-3
-unfolding option_taken
-returns-then-does_begin-3 c = rw (sym c.does_begin.ensures ∙ c.if-does_begin.false, sym c.does_begin-2.ensures ∙ c.if-does_begin-2.false, sym c.does_begin-3.ensures ∙ c.if-does_begin-3.true) (c.take_upto.ensures ∙ rw c.from_place-then-does_begin-3.ensures)
+pub returns-in-Some-strip_prefix-2 : goal.returns-in-Some-strip_prefix-2
+returns-in-Some-strip_prefix-2 c = let a = c.args in
+    let s = c.in-Some-strip_prefix-2.ensures.cases in
+    c.take_upto.ensures ∙ option-upto (said a.q) a.w.now c.in_default.ensures.cases c.in_default-strip_prefix.ensures.cases s.0 s.1
 
 pub returns : goal.returns
-unfolding option_taken
-returns c = rw (sym c.does_begin.ensures ∙ c.if-does_begin.false, sym c.does_begin-2.ensures ∙ c.if-does_begin-2.false, sym c.does_begin-3.ensures ∙ c.if-does_begin-3.false) c.no_such.ensures
+returns c = let a = c.args in
+    option-none (said a.q) a.w.now c.in_default.ensures.cases c.in_default-strip_prefix.ensures.cases c.in_default-strip_prefix-2.ensures.cases

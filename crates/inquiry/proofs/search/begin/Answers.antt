@@ -1,6 +1,5 @@
-use mathlib.Core.Path.{sym, ◌∙◌}
-use borrow.Author.Rules.{rules}
-use borrow.Author.Tests.{not-true, not-false}
+use mathlib.Core.Path.{refl, sym, ◌∙◌}
+use Rattle.inquiry.specs.Searching.{header_read}
 use Rattle.inquiry.proofs.OneRead.{already, not-begun, waits, wrong, right}
 use Rattle.inquiry.proofs.search.begin.Goals as goal
 
@@ -20,6 +19,6 @@ returns-then-not-header_fits c = let s = c.args in
 pub returns : goal.returns
 returns c = let s = c.args in
     right s.s s.buf.now c.within-n.result c.within-n.ensures c.if-n-lt8.false
-    (sym c.header_fits.ensures ∙ c.if-not-header_fits.false) c.shift-have.result c.shift-have.new.buf c.shift-have.ensures
-    c.header_read.result c.header_read.ensures
+    (sym c.header_fits.ensures ∙ c.if-not-header_fits.false) c.shift.result c.shift.new.buf c.shift.ensures
+    (header_read s.s c.shift.result) refl
     ∙ not-begun s.s s.buf.now c.if-s.false

@@ -1,4 +1,3 @@
-use borrow.Author.Rules.{rules}
 use Rattle.capture.specs.Typing.{Put}
 use Rattle.inquiry.proofs.OneRead.{bad-text, good-text}
 use Rattle.inquiry.proofs.search.put_text.Goals as goal

@@ -1,6 +1,7 @@
-use mathlib.Core.Path.{sym}
+use mathlib.Core.Path.{sym, ap}
 use lib.Seq.{length-take-le}
-use borrow.Author.Rules.{rules}
+use Rattle.trace.specs.declared.Tracing.{Tracing}
+use Rattle.trace.specs.declared.asked.Asked.{Asked}
 use Rattle.inquiry.proofs.OneRead.{moved-fits, traced}
 use Rattle.inquiry.proofs.search.trace_on.Goals as goal
 
@@ -13,5 +14,6 @@ slice_bounds-next_record-end-2 c = sym (length-take-le c.shift-have.result c.shi
 
 pub returns : goal.returns
 returns c = let s = c.args in
-    traced s.s s.buf.now c.within-n.result c.within-n.ensures s.kept.now c.rewind.result c.trace-asked.result c.trace-asked.new.kept c.rewind.ensures c.trace-asked.ensures
+    let front : Tracing → Asked = λ (x : Tracing). record { row = s.s.asked.row; tracing = x } in
+    traced s.s s.buf.now c.within-n.result c.within-n.ensures s.kept.now (front c.at_front.result) c.trace-asked.result c.trace-asked.new.kept (ap front c.at_front.ensures) c.trace-asked.ensures
     c.shift-have.result c.shift-have.new.buf c.shift-have.ensures c.next_record.result c.next_record.ensures c.is_settled-over.result c.is_settled-over.ensures

@@ -1,5 +1,0 @@
-use borrow.Author.Rules.{rules}
-use Rattle.inquiry.proofs.question.no_such.Goals as goal
-
-pub returns : goal.returns
-returns c = rw c.no_key.ensures
