@@ -9,11 +9,7 @@ use std::fs::File;
 // Whether there is an argument at a place.
 fn is_there(rt: HostRuntime, i: usize) -> bool {
     let mut front = [0u8; 1];
-    match rt.arg(i, &mut front) {
-        Ok(_) => true,
-        Err(FillError::TooLong) => true,
-        Err(FillError::NotPresent) => false,
-    }
+    !matches!(rt.arg(i, &mut front), Err(FillError::NotPresent))
 }
 
 // How many arguments there are, the program's name among them.
@@ -31,20 +27,32 @@ pub fn count(rt: HostRuntime) -> usize {
 pub fn argument(rt: HostRuntime, i: usize, word: &mut [u8]) -> Option<usize>
     ensures { IfSome result (λ n. n ≤ length word.new) }
 {
-    match rt.arg(i, word) {
-        Ok(n) => Some(n),
-        Err(_) => None,
-    }
+    rt.arg(i, word).ok()
 }
 
 // The same, and none where there is no such argument or it does not fit.
 pub fn argument_or_none(rt: HostRuntime, i: usize, word: &mut [u8]) -> usize
     ensures { result ≤ length word.new }
 {
-    match argument(rt, i, &mut *word) {
-        Some(n) => n,
-        None => 0,
+    argument(rt, i, &mut *word).unwrap_or(0)
+}
+
+// What the arguments behind the program's name make, each taken with its place behind those before it.
+// One that does not fit the lent buffer is taken as an empty one.
+pub fn folded<T, F: Fn(T, usize, &[u8]) -> T>(
+    rt: HostRuntime,
+    word: &mut [u8],
+    first: T,
+    take: F,
+) -> T
+    requires { F.IsAlwaysCallable take }
+{
+    let mut all = first;
+    for i in 1..count(rt) {
+        let n = argument_or_none(rt, i, &mut *word);
+        all = take(all, i, &word[..n]);
     }
+    all
 }
 
 // The file of a name, for reading. A name is UTF-8 text.
@@ -58,6 +66,6 @@ pub fn opened(rt: HostRuntime, name: &[u8]) -> Option<File> {
 // The file that the argument at a place names.
 pub fn opened_at(rt: HostRuntime, i: usize) -> Option<File> {
     let mut name = [0u8; 4_096];
-    let n = argument_or_none(rt, i, &mut name);
+    let n = argument(rt, i, &mut name)?;
     opened(rt, &name[..n])
 }

@@ -3,7 +3,7 @@
 // made; all that is done between them is `index_file`'s.
 #![tactic(auto)]
 
-use index_file::Sought;
+use index_file::{Sought, Used};
 use located::{complain, read_at};
 use std::fs::File;
 
@@ -16,56 +16,29 @@ struct Asked {
     reading: u64,
 }
 
-// What the log is: whether it starts with the header, how many octets it has, and whether that is not
-// known.
+// What the log is: whether it starts with the header, and how many octets it has.
 #[derive(Clone, Copy)]
 struct Front {
     marked: bool,
     size: u64,
-    failed: bool,
 }
 
-// What was sought, and whether a read failed.
-#[derive(Clone, Copy)]
-struct Looked {
-    sought: Sought,
-    failed: bool,
-}
-
-fn front_of(rt: HostRuntime, file: &File, size: u64) -> Front {
+// Nothing is read of a log whose length is not known; it is none there, and where a read failed.
+fn look_at_log(rt: HostRuntime, file: &File) -> Option<Front> {
+    let size = located::size_of(rt, b"ask", file)?;
     let mut front = [0u8; 8];
-    let got = read_at(rt, b"ask", file, 0, &mut front);
-    let marked = call_log::header_fits(octets::part(&front, 0, got.size));
-    Front {
-        marked: marked,
-        size: size,
-        failed: got.failed,
-    }
+    let n = read_at(rt, b"ask", file, 0, &mut front)?;
+    let marked = call_log::header_fits(octets::part(&front, 0, n));
+    Some(Front { marked, size })
 }
 
-// Nothing is read of a log whose length is not known.
-fn look_at_log(rt: HostRuntime, file: &File) -> Front {
-    let size = located::size_of(rt, b"ask", file);
-    if size.failed {
-        return Front {
-            marked: false,
-            size: 0,
-            failed: true,
-        };
-    }
-    front_of(rt, file, size.octets)
-}
-
-// The entry that is used, from the index file.
-fn look(rt: HostRuntime, a: &Asked, f: Front) -> Looked {
+// The entry that is used, from the index file; none where a read failed.
+fn look(rt: HostRuntime, a: &Asked) -> Option<Sought> {
+    let f = look_at_log(rt, &a.log)?;
     let mut buf = [0u8; 65_536];
-    let got = read_at(rt, b"ask", &a.index, 0, &mut buf);
-    let index = octets::part(&buf, 0, got.size);
-    let sought = index_file::sought_in(index, f.marked, f.size, a.label, a.reading);
-    Looked {
-        sought: sought,
-        failed: got.failed,
-    }
+    let n = read_at(rt, b"ask", &a.index, 0, &mut buf)?;
+    let index = octets::part(&buf, 0, n);
+    Some(index_file::sought_in(index, f.marked, f.size, a.label, a.reading))
 }
 
 fn tell(rt: HostRuntime, a: call_log::Answer) {
@@ -75,37 +48,25 @@ fn tell(rt: HostRuntime, a: call_log::Answer) {
 }
 
 // The records behind the entry, and the answer.
-fn answer(rt: HostRuntime, a: &Asked, x: Sought) {
+fn answer(rt: HostRuntime, a: &Asked, used: Used) {
     let mut window = [0u8; 528_896];
-    let place = x.entry.place;
-    let got = read_at(rt, b"ask", &a.log, place, &mut window);
-    if got.failed {
-        return;
+    let got = read_at(rt, b"ask", &a.log, used.entry.place, &mut window);
+    if let Some(n) = got {
+        let behind = octets::part(&window, 0, n);
+        tell(
+            rt,
+            index_file::asked_from(Ok(used), behind, a.label, a.reading),
+        );
     }
-    let behind = octets::part(&window, 0, got.size);
-    tell(rt, index_file::asked_from(x, behind, a.label, a.reading));
 }
 
 // Beside a refusal no record is read.
-fn answer_to(rt: HostRuntime, a: &Asked, x: Sought) {
-    if x.answer == 0 {
-        answer(rt, a, x);
-        return;
-    }
-    tell(rt, index_file::asked_from(x, b"", a.label, a.reading));
-}
-
 fn run(rt: HostRuntime, a: &Asked) {
-    let f = look_at_log(rt, &a.log);
-    if f.failed {
-        return;
+    match look(rt, a) {
+        Some(Ok(used)) => answer(rt, a, used),
+        Some(Err(refusal)) => tell(rt, Err(refusal)),
+        None => {}
     }
-    let l = look(rt, a, f);
-    if l.failed {
-        return;
-    }
-    let x = l.sought;
-    answer_to(rt, a, x);
 }
 
 fn open_both(rt: HostRuntime, label: u32, reading: u64) {
@@ -118,10 +79,10 @@ fn open_both(rt: HostRuntime, label: u32, reading: u64) {
         return;
     };
     let asked = Asked {
-        log: log,
-        index: index,
-        label: label,
-        reading: reading,
+        log,
+        index,
+        label,
+        reading,
     };
     run(rt, &asked);
 }
@@ -129,9 +90,10 @@ fn open_both(rt: HostRuntime, label: u32, reading: u64) {
 fn main(rt: HostRuntime) {
     let label = located::number_of(rt, 3, 4_294_967_295);
     let reading = located::number_of(rt, 4, 18_446_744_073_709_551_615);
-    if arguments::count(rt) == 5 && label.good && reading.good {
-        open_both(rt, (label.value % 4_294_967_296) as u32, reading.value);
-    } else {
-        complain(rt, b"usage: ask LOG INDEX LABEL READING\n");
+    match (label, reading) {
+        (Some(label), Some(reading)) if arguments::count(rt) == 5 => {
+            open_both(rt, (label % 4_294_967_296) as u32, reading)
+        }
+        _ => complain(rt, b"usage: ask LOG INDEX LABEL READING\n"),
     }
 }

@@ -7,57 +7,43 @@
 
 mod playing;
 
-use stored::say;
+use stored::with_named;
 
-// Whether a text is the one expected; if not, it is printed.
-fn is_expected(rt: HostRuntime, text: &[u8], expected: &[u8]) -> bool {
-    if text == expected {
-        return true;
-    }
-    stored::say_differs(rt, text);
-    false
-}
-
-// The capture fed in steps of so many octets.
-fn holds_in_steps(rt: HostRuntime, capture: &[u8], step: usize, expected: &[u8]) -> bool {
+// The capture fed in pieces of so many octets. A text that is not the one expected is printed.
+fn holds_in_pieces(rt: HostRuntime, capture: &[u8], size: usize, expected: &[u8]) -> bool {
     let mut out = [0u8; 65_536];
-    let n = playing::text_of(capture, step, &mut out);
-    is_expected(rt, &out[..n], expected)
+    let n = playing::text_of(capture, size, &mut out);
+    let good = &out[..n] == expected;
+    if !good {
+        stored::say_differs(rt, &out[..n]);
+    }
+    good
 }
 
 fn hold(rt: HostRuntime, capture: &[u8], expected: &[u8]) {
-    if !holds_in_steps(rt, capture, capture.len(), expected) {
-        return;
+    if holds_in_pieces(rt, capture, capture.len(), expected)
+        && holds_in_pieces(rt, capture, 7, expected)
+    {
+        stored::say_holds(rt, stored::line_count(expected), b" lines");
     }
-    if !holds_in_steps(rt, capture, 7, expected) {
-        return;
-    }
-    stored::say_holds(rt, stored::line_count(expected), b" lines");
 }
 
 // The capture that argument i names.
 fn run_named(rt: HostRuntime, i: usize) {
     let mut name = [0u8; 4_096];
-    let n = arguments::argument_or_none(rt, i, &mut name);
-    say(rt, &name[..n]);
-    let mut capture = [0u8; 65_536];
-    let given = stored::read_named(rt, &mut name, n, b".capture", &mut capture);
-    let mut expected = [0u8; 65_536];
-    let wanted = stored::read_named(rt, &mut name, n, b".lines", &mut expected);
-    if !given.whole || !wanted.whole {
-        say(rt, b": cannot be read\n");
-        return;
-    }
-    let size = given.size;
-    let lines = wanted.size;
-    hold(rt, &capture[..size], &expected[..lines]);
+    let n = arguments::argument(rt, i, &mut name).unwrap_or(0);
+    let name = &name[..n];
+    stored::say(rt, name);
+    with_named(
+        rt,
+        name,
+        b".capture",
+        |capture| with_named(rt, name, b".lines", |expected| hold(rt, capture, expected)),
+    );
 }
 
 fn main(rt: HostRuntime) {
-    let count = arguments::count(rt);
-    let mut i: usize = 1;
-    while i < count {
+    for i in 1..arguments::count(rt) {
         run_named(rt, i);
-        i += 1;
     }
 }

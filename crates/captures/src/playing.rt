@@ -1,4 +1,4 @@
-// A capture fed to a table in steps, as if its octets came one step after the other.
+// A capture fed to a table in pieces, as if its octets came one piece after the other.
 ghost use Rattle.std.specs.Counts.{IsPrefixLen};
 
 use capture::Next;
@@ -6,65 +6,42 @@ use feed::Fed;
 use owner::Feeding;
 use stored::{further, put_text};
 
-// The table, and how many octets of the capture have come.
-#[derive(Clone, Copy)]
-struct Playing {
-    table: Feeding,
-    have: usize,
-}
-
 // An empty table in front of the first record.
-fn begun() -> Playing {
+fn empty_table() -> Feeding {
     let r = table::absent();
     let row = [r; 64];
     let head = table::first_head();
     let fed = Fed {
-        head: head,
+        head,
         number: 0,
         used: 8,
         written: 0,
     };
-    let table = Feeding { row, fed };
-    Playing { table, have: 8 }
-}
-
-fn advance(p: Playing, capture: &[u8], step: usize, out: &mut [u8]) -> Playing {
-    let have = further(p.have, step, capture);
-    let table = owner::feed(p.table, &capture[..have], out);
-    Playing { table, have: have }
-}
-
-fn is_end(n: Next) -> bool {
-    match n {
-        Next::End => true,
-        Next::Whole(_) => false,
-        Next::Broken => false,
-        Next::Short => false,
-    }
+    Feeding { row, fed }
 }
 
 // All octets have come: what is left is no record.
 fn end(fed: Fed, capture: &[u8], out: &mut [u8]) -> usize
     ensures { IsPrefixLen result out.new }
 {
-    if is_end(capture::next_record(capture, fed.used)) {
+    if matches!(capture::next_record(capture, fed.used), Next::End) {
         return put_text(out, fed.written, b"");
     }
     put_text(out, fed.written, b"cut\n")
 }
 
-// The text of a capture whose octets come in steps.
-pub(crate) fn text_of(capture: &[u8], step: usize, out: &mut [u8]) -> usize
+// The text of a capture whose octets come in pieces of so many.
+pub(crate) fn text_of(capture: &[u8], size: usize, out: &mut [u8]) -> usize
     ensures { IsPrefixLen result out.new }
 {
     if !capture::header_fits(capture) {
         return put_text(out, 0, b"bad header\n");
     }
-    let mut p = begun();
-    let mut turns = u64::MAX;
-    while turns > 0 && p.have < capture.len() {
-        p = advance(p, capture, step, &mut *out);
-        turns -= 1;
+    let mut table = empty_table();
+    let mut have: usize = 8;
+    for piece in octets::from_place(capture, 8).chunks(size.max(1)) {
+        have = further(have, piece.len(), capture);
+        table = owner::feed(table, &capture[..have], &mut *out);
     }
-    end(p.table.fed, capture, out)
+    end(table.fed, capture, out)
 }

@@ -1,11 +1,12 @@
 -- The octets of a file that are at hand, from one place of a lent buffer to another.
 -- Assumes nothing.
-use Rattle.std.specs.Prelude.{ℕ, ◌+◌, ◌-◌, false, cond, List, take, drop, ltb}
+use Rattle.std.specs.Prelude.{ℕ, ◌+◌, ◌-◌, cond, List, take, drop, ltb}
 use Rattle.compare.specs.declared.window.Window.{Window}
+use Rattle.compare.specs.declared.window.Behind.TheVariants.{More}
 
 -- a file before its first octet
 abbrev pub first : Window
-first = record { from = 0; to = 0; ended = false; failed = false; place = 0; records = 0 }
+first = record { from = 0; to = 0; behind = More; place = 0; records = 0 }
 
 abbrev pub left_in : Window → ℕ
 left_in w = w.to - w.from
@@ -23,8 +24,7 @@ further_by w n records =
     record {
       from = sum w.from n;
       to = w.to;
-      ended = w.ended;
-      failed = w.failed;
+      behind = w.behind;
       place = sum w.place n;
       records = sum w.records records;
     }

@@ -8,7 +8,7 @@ mod window;
 use comparison::Marks;
 use std::fs::File;
 use std::io::Error;
-use window::{Window, filled, first, left, passed, seen};
+use window::{Window, filled, first, has_failed, left, passed, seen};
 
 // The files that are compared.
 #[derive(Drop)]
@@ -17,29 +17,28 @@ struct Files {
     second: File,
 }
 
-// The place where the rest begins, the number of the pair to come, whether all agreed so far, and
-// whether all was written.
+// The place where the rest begins, the number of the pair to come, and whether all agreed so far.
 #[derive(Clone, Copy)]
 struct Told {
     rest: u64,
     number: u64,
     agree: bool,
-    written: bool,
 }
 
-// Both files before a pair, what was told of those before it, and whether there was one.
+// Both files before a pair, and what was told of those before it.
 #[derive(Clone, Copy)]
 struct Pair {
     first: Window,
     second: Window,
     told: Told,
-    go: bool,
 }
 
+// What is behind a pair: another one, the end of both files, or nothing where a read or a write failed.
 #[derive(Clone, Copy)]
-struct Judged {
-    good: bool,
-    failed: bool,
+enum Outcome {
+    Pair(Pair),
+    End(Told),
+    Failure,
 }
 
 // ---- the lines
@@ -72,43 +71,36 @@ fn pass_record(rt: HostRuntime, file: &File, w: Window, buf: &mut [u8]) -> Windo
 // Behind the last whole record. The number of records is bounded by one that no run uses up.
 fn pass_records(rt: HostRuntime, file: &File, from: Window, buf: &mut [u8]) -> Window {
     let mut w = from;
-    let mut go = true;
-    let mut turns = u64::MAX;
-    while turns > 0 && go {
+    for _record in 0..u64::MAX {
         let next = pass_record(rt, file, w, &mut *buf);
-        go = w.place < next.place;
+        if next.place <= w.place {
+            return next;
+        }
         w = next;
-        turns -= 1;
     }
     w
 }
 
-// What a file is from its header to its end: whether it is a capture, and whether a read failed.
-fn look_through(rt: HostRuntime, file: &File, buf: &mut [u8]) -> Judged {
+// Whether a file is a capture from its header to its end; none where a read failed.
+fn look_through(rt: HostRuntime, file: &File, buf: &mut [u8]) -> Option<bool> {
     let f = filled(rt, file, first(), &mut *buf);
     if !capture::header_fits(seen(f, &*buf)) {
-        return Judged {
-            good: false,
-            failed: f.failed,
-        };
+        return (!has_failed(f)).then_some(false);
     }
     let end = pass_records(rt, file, passed(f, 8, 0), buf);
-    Judged {
-        good: left(end) == 0,
-        failed: end.failed,
-    }
+    (!has_failed(end)).then_some(left(end) == 0)
 }
 
 // Whether a file is good. That it is bad is said here; that a read failed was said behind the read.
 fn is_good(rt: HostRuntime, file: &File, answer: u64, buf: &mut [u8]) -> bool {
-    let j = look_through(rt, file, buf);
-    if j.failed {
-        return false;
+    match look_through(rt, file, buf) {
+        Some(true) => true,
+        Some(false) => {
+            say_refused(rt, answer);
+            false
+        }
+        None => false,
     }
-    if !j.good {
-        say_refused(rt, answer);
-    }
-    j.good
 }
 
 // Whether the file that argument i names is good. That it cannot be opened is said here.
@@ -123,109 +115,87 @@ fn is_compared(rt: HostRuntime, i: usize, unread: &[u8], answer: u64, buf: &mut 
 }
 
 // ---- both, pair by pair
-fn next_number(n: u64) -> u64 {
-    if n < u64::MAX {
-        return n + 1;
-    }
-    n
-}
-
 // What a pair is to what is told. The rest begins with the first record that differs, and an extra
 // one of the second leaves none: there the first is at its end.
-fn told_by(t: Told, m: Marks, place: u64, written: bool) -> Told {
-    let number = next_number(t.number);
+fn told_by(t: Told, m: Marks, place: u64) -> Told {
+    let number = t.number.saturating_add(1);
     if !t.agree {
-        return Told {
-            rest: t.rest,
-            number: number,
-            agree: false,
-            written: written,
-        };
+        return Told { number, ..t };
     }
-    let alike = comparison::is_unmarked(m) && !m.first;
     Told {
         rest: place,
-        number: number,
-        agree: alike,
-        written: written,
+        number,
+        agree: comparison::is_unmarked(m) && !m.first,
     }
 }
 
 // The second is not read where a read of the first failed.
-fn fill_second(rt: HostRuntime, file: &File, a: Window, b: Window, second: &mut [u8]) -> Window {
-    if a.failed {
-        return b;
-    }
-    filled(rt, file, b, second)
-}
-
 fn fill_both(rt: HostRuntime, files: &Files, p: Pair, first: &mut [u8], second: &mut [u8]) -> Pair {
     let a = filled(rt, &files.first, p.first, first);
-    let b = fill_second(rt, &files.second, a, p.second, second);
-    let told = p.told;
+    if has_failed(a) {
+        return Pair { first: a, ..p };
+    }
+    let b = filled(rt, &files.second, p.second, second);
     Pair {
         first: a,
         second: b,
-        told,
-        go: p.go,
-    }
-}
-
-fn is_failed(p: Pair) -> bool {
-    p.first.failed || p.second.failed || !p.told.written
-}
-
-fn stopped(p: Pair) -> Pair {
-    let first = p.first;
-    let second = p.second;
-    let told = p.told;
-    Pair {
-        first,
-        second,
-        told,
-        go: false,
+        ..p
     }
 }
 
 // One pair, of what is at hand.
-fn tell_next(rt: HostRuntime, p: Pair, first: &[u8], second: &[u8]) -> Pair {
+fn tell_next(rt: HostRuntime, p: Pair, first: &[u8], second: &[u8]) -> Outcome {
     let s = seen(p.first, first);
     let t = seen(p.second, second);
     let m = comparison::marks_of(s, t);
-    let written = say_pair(rt, p.told.number, m);
-    let told = told_by(p.told, m, p.first.place, written);
+    if !say_pair(rt, p.told.number, m) {
+        return Outcome::Failure;
+    }
+    let told = told_by(p.told, m, p.first.place);
     let n = comparison::step_of(s);
     let k = comparison::step_of(t);
-    let a = passed(p.first, n, 1);
-    let b = passed(p.second, k, 1);
-    Pair {
-        first: a,
-        second: b,
-        told,
-        go: written && (n > 0 || k > 0),
+    if n == 0 && k == 0 {
+        return Outcome::End(told);
     }
+    Outcome::Pair(Pair {
+        first: passed(p.first, n, 1),
+        second: passed(p.second, k, 1),
+        told,
+    })
 }
 
 // One pair more, unless a read failed: behind that nothing is told, nor behind a write that failed.
-fn tell_pair(rt: HostRuntime, files: &Files, p: Pair, first: &mut [u8], second: &mut [u8]) -> Pair {
+fn tell_pair(
+    rt: HostRuntime,
+    files: &Files,
+    p: Pair,
+    first: &mut [u8],
+    second: &mut [u8],
+) -> Outcome {
     let q = fill_both(rt, files, p, &mut *first, &mut *second);
-    if is_failed(q) {
-        return stopped(q);
+    if has_failed(q.first) || has_failed(q.second) {
+        return Outcome::Failure;
     }
     tell_next(rt, q, &*first, &*second)
 }
 
-// Pair by pair.
-fn tell(rt: HostRuntime, files: &Files, start: Pair, first: &mut [u8], second: &mut [u8]) -> Pair {
+// Pair by pair; none where one failed. The number of pairs is bounded by one that no run uses up.
+fn tell(
+    rt: HostRuntime,
+    files: &Files,
+    start: Pair,
+    first: &mut [u8],
+    second: &mut [u8],
+) -> Option<Told> {
     let mut p = start;
-    let mut go = true;
-    let mut turns = u64::MAX;
-    while turns > 0 && go {
-        p = tell_pair(rt, files, p, &mut *first, &mut *second);
-        go = p.go;
-        turns -= 1;
+    for _pair in 0..u64::MAX {
+        match tell_pair(rt, files, p, &mut *first, &mut *second) {
+            Outcome::Pair(next) => p = next,
+            Outcome::End(told) => return Some(told),
+            Outcome::Failure => return None,
+        }
     }
-    p
+    Some(p.told)
 }
 
 // A file behind its header.
@@ -237,7 +207,7 @@ fn behind_header(rt: HostRuntime, file: &File, buf: &mut [u8]) -> Window {
 // All pairs, and then the place where the rest begins.
 fn compare_files(rt: HostRuntime, files: &Files, first: &mut [u8], second: &mut [u8]) {
     let a = behind_header(rt, &files.first, &mut *first);
-    if a.failed {
+    if has_failed(a) {
         return;
     }
     let b = behind_header(rt, &files.second, &mut *second);
@@ -245,17 +215,14 @@ fn compare_files(rt: HostRuntime, files: &Files, first: &mut [u8], second: &mut 
         rest: 8,
         number: 1,
         agree: true,
-        written: true,
     };
-    let p = Pair {
+    let start = Pair {
         first: a,
         second: b,
         told,
-        go: true,
     };
-    let end = tell(rt, files, p, first, second);
-    if !is_failed(end) {
-        say_rest(rt, end.told.rest);
+    if let Some(told) = tell(rt, files, start, first, second) {
+        say_rest(rt, told.rest);
     }
 }
 

@@ -1,51 +1,40 @@
 // A file in constant memory: the octets of it that are at hand, in a lent buffer.
 ghost use Rattle.std.specs.Prelude.{◌≡◌};
-ghost use Rattle.compare.specs.Windows.{first, left_in, seen_in, sum, further_by};
+ghost use Rattle.compare.specs.Windows.{first, left_in, seen_in, further_by};
 
 use std::fs::File;
-use std::io;
 use std::io::Read;
+use syscall::Came;
 
-// From one place of the buffer to another they are not passed yet; whether the file has no more
-// behind them, or a read of it failed; which octet of the file is the first of them, and how many
-// records were passed.
+// What is behind the octets at hand: there may be more, the file ends there, or a read failed.
+#[derive(Clone, Copy)]
+pub enum Behind {
+    More,
+    End,
+    Failure,
+}
+
+// From one place of the buffer to another they are not passed yet; what is behind them; which octet of
+// the file is the first of them, and how many records were passed.
 #[derive(Clone, Copy)]
 pub struct Window {
     pub from: usize,
     pub to: usize,
-    pub ended: bool,
-    pub failed: bool,
+    pub behind: Behind,
     pub place: u64,
     pub records: u64,
-}
-
-// A sum that stays at the greatest number.
-fn plus(a: usize, b: usize) -> usize
-    ensures { result ≡ sum a b }
-{
-    if usize::MAX - a < b {
-        return usize::MAX;
-    }
-    a + b
-}
-
-fn further(place: u64, n: usize) -> u64
-    ensures { result ≡ sum place n }
-{
-    if u64::MAX - place < n as u64 {
-        return u64::MAX;
-    }
-    place + n as u64
 }
 
 // How many octets are at hand.
 pub fn left(w: Window) -> usize
     ensures { result ≡ left_in w }
 {
-    if w.to < w.from {
-        return 0;
-    }
-    w.to - w.from
+    w.to.saturating_sub(w.from)
+}
+
+// Whether a read of the file failed.
+pub(crate) fn has_failed(w: Window) -> bool {
+    matches!(w.behind, Behind::Failure)
 }
 
 // A file before its first octet.
@@ -55,8 +44,7 @@ pub fn first() -> Window
     Window {
         from: 0,
         to: 0,
-        ended: false,
-        failed: false,
+        behind: Behind::More,
         place: 0,
         records: 0,
     }
@@ -73,57 +61,38 @@ pub fn seen(w: Window, buf: &[u8]) -> &[u8]
 pub fn passed(w: Window, n: usize, records: usize) -> Window
     ensures { result ≡ further_by w n records }
 {
-    let mut next = w;
-    next.from = plus(w.from, n);
-    next.place = further(w.place, n);
-    next.records = further(w.records, records);
-    next
-}
-
-// The octets at hand, moved to the buffer's front.
-fn shift(buf: &mut [u8], from: usize, n: usize) {
-    let mut i: usize = 0;
-    while i < n {
-        let b = octets::get_u8(&*buf, plus(from, i));
-        octets::put_u8(&mut *buf, i, b);
-        i += 1;
-    }
-}
-
-fn reached(w: Window, from: usize, to: usize, ended: bool, failed: bool) -> Window {
     Window {
-        from: from,
-        to: to,
-        ended: ended,
-        failed: failed,
-        place: w.place,
-        records: w.records,
+        from: w.from.saturating_add(n),
+        place: w.place.saturating_add(n as u64),
+        records: w.records.saturating_add(records as u64),
+        ..w
     }
 }
 
-// What one read answered. None is the file's end; one that failed is told of, and nothing is read
-// behind it.
-fn after_read(rt: HostRuntime, w: Window, got: io::Result<usize>, buf: &[u8]) -> Window {
-    match got {
-        Ok(0) => reached(w, w.from, w.to, true, false),
-        Ok(n) => reached(w, w.from, pump::advance(w.to, n, buf.len()), false, false),
-        Err(error) => {
-            let again = syscall::is_again(rt.stderr(), b"compare", false, error, w.records);
-            reached(w, w.from, w.to, !again, !again)
-        }
-    }
-}
-
-// One read, behind the octets at hand.
+// One read, behind the octets at hand. One that failed is told of, and nothing is read behind it.
 fn read_on(rt: HostRuntime, mut file: &File, w: Window, buf: &mut [u8]) -> Window {
     let at = pump::within(w.to, buf);
     let got = file.read(&mut buf[at..]);
-    after_read(rt, w, got, &*buf)
+    match syscall::what_came(rt.stderr(), b"compare", got, w.records) {
+        Came::Octets(n) => Window {
+            to: pump::advance(w.to, n, buf.len()),
+            ..w
+        },
+        Came::End => Window {
+            behind: Behind::End,
+            ..w
+        },
+        Came::Again => w,
+        Came::Failed => Window {
+            behind: Behind::Failure,
+            ..w
+        },
+    }
 }
 
 // A whole record, 2,064 octets at most, might not be at hand, and there may be more.
 fn wants(w: Window) -> bool {
-    !w.ended && left(w) < 2_064
+    matches!(w.behind, Behind::More) && left(w) < 2_064
 }
 
 // More is read, until a whole record is at hand or the file ends. The number of reads is bounded by one
@@ -132,13 +101,13 @@ pub fn filled(rt: HostRuntime, file: &File, w: Window, buf: &mut [u8]) -> Window
     if !wants(w) {
         return w;
     }
-    let n = left(w);
-    shift(&mut *buf, w.from, n);
-    let mut x = reached(w, 0, n, false, false);
-    let mut turns = u64::MAX;
-    while turns > 0 && wants(x) {
+    let to = pump::shift(&mut *buf, w.from, w.to);
+    let mut x = Window { from: 0, to, ..w };
+    for _turn in 0..u64::MAX {
+        if !wants(x) {
+            break;
+        }
         x = read_on(rt, file, x, &mut *buf);
-        turns -= 1;
     }
     x
 }

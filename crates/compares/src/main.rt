@@ -5,77 +5,30 @@
 // The pairs and what is said of them were worked out by hand (the .txt beside them).
 #![tactic(auto)]
 
-ghost use Rattle.std.specs.Counts.{IsPrefixLen};
-
-use comparison::Compared;
-use stored::{say, say_number};
+use stored::{say, say_number, with_named};
 
 fn say_spaced(rt: HostRuntime, n: u64) {
     say(rt, b" ");
     say_number(rt, n);
 }
 
-fn entry_at(list: &[u64], i: usize) -> u64 {
-    if i < list.len() {
-        return list[i];
-    }
-    0
-}
-
-fn say_list(rt: HostRuntime, list: &[u64], count: usize) {
-    let mut i: usize = 0;
-    while i < count {
-        say_spaced(rt, entry_at(list, i));
-        i += 1;
-    }
-}
-
-// Whether the entries from a place on are as they were lent.
-fn is_unwritten(list: &[u64], from: usize) -> bool {
-    let mut i = from;
-    while i < list.len() {
-        if list[i] != 7 {
-            return false;
-        }
-        i += 1;
-    }
-    true
-}
-
-// At most all of a list.
-fn within(n: usize, list: &[u64]) -> usize
-    ensures { IsPrefixLen result list.now }
-{
-    if n < list.len() {
-        return n;
-    }
-    list.len()
-}
-
-// The first entries of a lent list as the list.
-fn compare_within(first: &[u8], second: &[u8], list: &mut [u64], room: usize) -> Compared {
-    let n = within(room, &*list);
-    comparison::compare(first, second, &mut list[..n])
-}
-
-// What a list of so many entries is answered.
-fn say_room(rt: HostRuntime, first: &[u8], second: &[u8], room: usize) {
-    let mut list = [7u64; 64];
-    let c = compare_within(first, second, &mut list, room);
-    say(rt, b", room ");
-    say_number(rt, room as u64);
-    say(rt, b": ");
-    say_number(rt, c.answer as u64);
-    if !is_unwritten(&list, c.count) {
+// That the entries from a place on are not as they were lent.
+fn say_written(rt: HostRuntime, list: &[u64], from: usize) {
+    if list.iter().skip(from).any(|&entry| entry != 7) {
         say(rt, b", written behind the entries");
     }
 }
 
-fn one_less(n: usize) -> usize {
-    if n == 0 {
-        return 0;
-    }
-    n - 1
+// What a list of so many entries is answered, the first of a longer one.
+fn say_room(rt: HostRuntime, first: &[u8], second: &[u8], room: usize) {
+    let mut list = [7u64; 64];
+    let n = room.min(list.len());
+    let c = comparison::compare(first, second, &mut list[..n]);
+    say(rt, b", room ");
+    say_number(rt, room as u64);
+    say(rt, b": ");
+    say_number(rt, octets::answer_number(c.map(|_| ())) as u64);
+    say_written(rt, &list, c.unwrap_or(0));
 }
 
 fn say_rest(rt: HostRuntime, first: &[u8], second: &[u8]) {
@@ -88,41 +41,35 @@ fn say_rest(rt: HostRuntime, first: &[u8], second: &[u8]) {
 fn run(rt: HostRuntime, first: &[u8], second: &[u8]) {
     let mut list = [7u64; 64];
     let c = comparison::compare(first, second, &mut list);
+    let count = c.unwrap_or(0);
     say(rt, b": ");
-    say_number(rt, c.answer as u64);
-    say_list(rt, &list, c.count);
-    if !is_unwritten(&list, c.count) {
-        say(rt, b", written behind the entries");
+    say_number(rt, octets::answer_number(c.map(|_| ())) as u64);
+    for &entry in list.iter().take(count) {
+        say_spaced(rt, entry);
     }
+    say_written(rt, &list, count);
     say_rest(rt, first, second);
-    say_room(rt, first, second, c.count);
-    say_room(rt, first, second, one_less(c.count));
+    say_room(rt, first, second, count);
+    say_room(rt, first, second, count.saturating_sub(1));
     say(rt, b"\n");
 }
 
 // The pair that argument i names.
 fn run_named(rt: HostRuntime, i: usize) {
     let mut name = [0u8; 4_096];
-    let n = arguments::argument_or_none(rt, i, &mut name);
-    say(rt, &name[..n]);
-    let mut first = [0u8; 65_536];
-    let given = stored::read_named(rt, &mut name, n, b".first", &mut first);
-    let mut second = [0u8; 65_536];
-    let other = stored::read_named(rt, &mut name, n, b".second", &mut second);
-    if !given.whole || !other.whole {
-        say(rt, b": cannot be read\n");
-        return;
-    }
-    let size = given.size;
-    let others = other.size;
-    run(rt, &first[..size], &second[..others]);
+    let n = arguments::argument(rt, i, &mut name).unwrap_or(0);
+    let name = &name[..n];
+    say(rt, name);
+    with_named(
+        rt,
+        name,
+        b".first",
+        |first| with_named(rt, name, b".second", |second| run(rt, first, second)),
+    );
 }
 
 fn main(rt: HostRuntime) {
-    let count = arguments::count(rt);
-    let mut i: usize = 1;
-    while i < count {
+    for i in 1..arguments::count(rt) {
         run_named(rt, i);
-        i += 1;
     }
 }

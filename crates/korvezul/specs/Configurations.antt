@@ -1,7 +1,7 @@
 -- What the exported reader of a configuration answers: one record of numbers.
 -- Assumes nothing.
 use Rattle.octets.specs.Choice.{Answer, accepted, refused}
-use Rattle.configuration.specs.Reading.{Offer}
+use Rattle.configuration.specs.declared.Offer.{Offer}
 use Rattle.korvezul.specs.declared.provisioning.ConfigurationRead.{ConfigurationRead}
 
 -- 0 and the two numbers, or the refusal's number and noughts

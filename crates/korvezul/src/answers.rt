@@ -1,7 +1,6 @@
 // What each call answers, from the outcome of its request.
 ghost use Rattle.std.specs.Prelude.{◌≡◌};
 ghost use Rattle.octets.specs.Writing.{writing};
-ghost use Rattle.rules.specs.Calls.{no_report};
 ghost use Rattle.step.specs.Saying.{cv_told};
 ghost use Rattle.korvezul.specs.Calling.{answered_with, report_of};
 
@@ -12,8 +11,7 @@ use step::Outcome;
 pub fn number(o: Outcome) -> u32
     ensures { result ≡ o.answer }
 {
-    let answer = o.answer;
-    answer
+    o.answer
 }
 
 // The seven numbers behind an answer.
@@ -21,7 +19,7 @@ fn answered_with(answer: u32, r: Report) -> ReportAnswer
     ensures { result ≡ answered_with answer r }
 {
     ReportAnswer {
-        answer: answer,
+        answer,
         state: r.state,
         crossing: r.crossing,
         loss: r.loss,
@@ -32,43 +30,32 @@ fn answered_with(answer: u32, r: Report) -> ReportAnswer
     }
 }
 
-// Seven noughts, beside a refusal.
-fn no_report() -> Report
-    ensures { result ≡ no_report }
-{
-    Report {
-        state: 0,
-        crossing: 0,
-        loss: 0,
-        alarm: 0,
-        rdi: 0,
-        blocked: 0,
-        conditions: 0,
-    }
-}
-
 pub fn reported(o: Outcome) -> ReportAnswer
     ensures { result ≡ report_of o }
 {
     if o.answer == 0 {
-        let report = o.told.report;
-        return answered_with(0, report);
+        return answered_with(0, o.told.report);
     }
-    answered_with(o.answer, no_report())
+    answered_with(o.answer, step::no_report())
 }
 
+#[tactic(auto, unfolding(octets::specs::Writing::writing))]
 pub fn put_cc(buffer: &mut [u8], o: Outcome) -> u32
     ensures { record { answer = result; buffer = buffer.new } ≡ writing o.answer o.told.cc buffer.old }
 {
-    let octets = o.told.cc;
-    octets::write_octets(buffer, o.answer, &octets)
+    if o.answer != 0 {
+        return o.answer;
+    }
+    octets::answer_number(octets::write_octets(buffer, &o.told.cc))
 }
 
+#[tactic(auto, unfolding(octets::specs::Writing::writing))]
 pub fn put_cv(buffer: &mut [u8], o: Outcome) -> u32
     ensures { record { answer = result; buffer = buffer.new } ≡ writing o.answer (cv_told o.told) buffer.old }
 {
+    if o.answer != 0 {
+        return o.answer;
+    }
     let told = o.told.cv;
-    let count = told.count;
-    let whole = told.octets;
-    octets::write_octets(buffer, o.answer, octets::part(&whole, 0, count))
+    octets::answer_number(octets::write_octets(buffer, octets::part(&told.octets, 0, told.count)))
 }

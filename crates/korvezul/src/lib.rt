@@ -56,7 +56,8 @@ pub struct OpeningFor {
     pub party: u32,
 }
 
-// Clock and set of an empty table, and the answer.
+// Clock and set of an empty table, and the answer: a number and no Result, since the C interface returns it and a refused
+// table's head stands beside it all the same (`begun_of`).
 #[derive(Clone, Copy)]
 pub struct Begun {
     pub head: Head,

@@ -33,6 +33,7 @@ pub fn korvezul_read_cv(message: &[u8]) -> CvRead
 }
 
 // Reads a MEP-ID alone, from its octets, type to end.
+#[tactic(auto, unfolding(cv::specs::MepId::read_mep))]
 pub fn korvezul_read_mep_id(octets: &[u8]) -> MepIdRead
     ensures { result ≡ mep_read (read_mep octets.now) }
 {
@@ -47,27 +48,31 @@ pub fn korvezul_read_fault(message: &[u8]) -> FaultRead
 }
 
 // Writes a plain CC, 28 octets: 10 for the fields, then 13 for the buffer, and then no byte changes.
+#[tactic(auto, unfolding(octets::specs::Writing::writing))]
 pub fn korvezul_write_cc_message(buffer: &mut [u8], packet: PacketFields) -> u32
     ensures { record { answer = result; buffer = buffer.new } ≡ writing (cc_write_refusal packet) (cc_octets (packet_from packet)) buffer.old }
 {
-    fields::write_cc(buffer, packet)
+    octets::answer_number(fields::write_cc(buffer, packet))
 }
 
 // Writes a plain CV, 44 octets; of a pseudowire 46 to 78.
+#[tactic(auto, unfolding(octets::specs::Writing::writing))]
 pub fn korvezul_write_cv_message(buffer: &mut [u8], packet: PacketFields, mep: MepId) -> u32
     ensures { record { answer = result; buffer = buffer.new } ≡ writing (cv_write_refusal packet mep) (cv_octets (packet_from packet) mep) buffer.old }
 {
-    fields::write_cv(buffer, packet, mep)
+    octets::answer_number(fields::write_cv(buffer, packet, mep))
 }
 
 // Writes a plain fault message, 9, 15, 19 or 25 octets.
+#[tactic(auto, unfolding(fault::specs::Octets::fault_octets, octets::specs::Writing::writing))]
 pub fn korvezul_write_fault_message(buffer: &mut [u8], fault: FaultFields) -> u32
     ensures { record { answer = result; buffer = buffer.new } ≡ writing (fault_write_refusal fault) (fault_octets (fault_from fault)) buffer.old }
 {
-    fields::write_fault(buffer, fault)
+    octets::answer_number(fields::write_fault(buffer, fault))
 }
 
 // Reads a DHC message.
+#[tactic(auto, unfolding(coordination::specs::Message::read_dhc))]
 pub fn korvezul_read_dhc(message: &[u8]) -> DhcRead
     ensures { result ≡ numbers_by (read_dhc message.now) }
 {
@@ -75,8 +80,9 @@ pub fn korvezul_read_dhc(message: &[u8]) -> DhcRead
 }
 
 // Writes a plain DHC message, 32, 36 or 56 octets.
+#[tactic(auto, unfolding(coordination::specs::Octets::dhc_octets, octets::specs::Writing::writing))]
 pub fn korvezul_write_dhc_message(buffer: &mut [u8], dhc: DhcNumbers) -> u32
     ensures { record { answer = result; buffer = buffer.new } ≡ writing (numbers_refusal dhc) (dhc_octets (dhc_from dhc)) buffer.old }
 {
-    coordination::write_dhc_numbers(buffer, dhc)
+    octets::answer_number(coordination::write_dhc_numbers(buffer, dhc))
 }

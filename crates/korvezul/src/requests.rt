@@ -5,6 +5,7 @@ ghost use Rattle.step.specs.Requests.{aimed_at};
 ghost use Rattle.korvezul.specs.Calling.{meant_by, own_settings, arrival_of, begun_of};
 
 use crate::{Begun, OpeningFor};
+use octets::Refusal;
 use rules::Circuit;
 use scan::{Summary, Target};
 use step::{Arrival, Opening, Request};
@@ -28,10 +29,7 @@ pub fn opening(g: OpeningFor, reading: u64) -> Opening
 {
     let mut settings = g.settings;
     settings.label = rules::own_label(g.party, g.settings.label);
-    Opening {
-        settings: settings,
-        reading: reading,
-    }
+    Opening { settings, reading }
 }
 
 // A message looks for its label.
@@ -82,11 +80,11 @@ pub fn arrival(head: Head, seen: Summary, size: usize, reading: u64) -> Arrival
     ensures { result ≡ arrival_of head seen size reading }
 {
     Arrival {
-        head: head,
-        reading: reading,
+        head,
+        reading,
         place: seen.place,
         from: 0,
-        size: size,
+        size,
         sound: seen.sound,
     }
 }
@@ -102,7 +100,7 @@ pub fn first_table(records: usize, head: Head) -> Begun
         };
     }
     Begun {
-        head: head,
-        answer: 26,
+        head,
+        answer: u32::from(Refusal::Unsound),
     }
 }

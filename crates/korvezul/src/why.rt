@@ -10,6 +10,7 @@ use table::Head;
 
 // The reading of the message that accounts for what a label shows, its age at the clock and the end.
 // Row, clock and set stay as they are.
+#[tactic(auto, unfolding(live::specs::Live::asking))]
 pub fn korvezul_why(row: &mut [Session], head: &mut Head, q: LiveQuestion) -> LiveCause
     ensures { record { cause = result; table = table_of row.new head.new } ≡ asking (table_of row.old head.old) q }
 {

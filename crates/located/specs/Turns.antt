@@ -1,12 +1,14 @@
 -- What one read is to the octets that were read before it.
 -- Assumes nothing.
-use Rattle.std.specs.Prelude.{ℕ, ◌+◌, min, Bool, false, not, ltb}
+use Rattle.std.specs.Prelude.{ℕ, ◌+◌, min}
+use Rattle.syscall.specs.declared.Came.{Came}
+use Rattle.syscall.specs.declared.Came.TheVariants.{Octets, End, Again, Failed}
 use Rattle.located.specs.declared.Turn.{Turn}
+use Rattle.located.specs.declared.Turn.TheVariants.{More, All, Failed as NoMore}
 
--- so many octets more, and not past the buffer's end; none is the end of the file
-abbrev pub read_behind : ℕ → ℕ → ℕ → Turn
-read_behind size n room = record { size = min (size + n) room; go = ltb 0 n; failed = false }
-
--- a read that failed, which is made again or is the last
-abbrev pub failed_behind : ℕ → Bool → Turn
-failed_behind size again = record { size = size; go = again; failed = not again }
+-- so many octets more, and not past the buffer's end; none is the end of the file. A read that failed is made again or is the last
+abbrev pub turn_behind : ℕ → Came → ℕ → Turn
+turn_behind size (Octets n) room = More (min (size + n) room)
+turn_behind size End room = All size
+turn_behind size Again room = More size
+turn_behind size Failed room = NoMore

@@ -1,49 +1,44 @@
 // What is written: a comment that says the answer in words and, of an accepted record, the line of the
 // sessions file.
-use crate::words::{Words, does_begin};
+use crate::words::Words;
 use capture::{put_decimal, put_words};
-use configuration::ConfigurationAnswer;
+use configuration::Offer;
+use octets::Refusal;
 
 // The argument at a place, or what stands for one that is not there.
-fn put_argument(rt: HostRuntime, out: &mut [u8], at: usize, i: usize, missing: &[u8]) -> usize {
-    if i == 0 {
+fn put_argument(
+    rt: HostRuntime,
+    out: &mut [u8],
+    at: usize,
+    i: Option<usize>,
+    missing: &[u8],
+) -> usize {
+    let Some(i) = i else {
         return put_words(out, at, missing);
-    }
+    };
     let mut word = [0u8; 128];
-    let n = arguments::argument_or_none(rt, i, &mut word);
+    let n = arguments::argument(rt, i, &mut word).unwrap_or(0);
     put_words(out, at, pump::part(&word, 0, n))
 }
 
-// Whether the argument at a place is copied to the end of the line: the setting and the words that
-// have a place of their own are not.
-fn is_further(rt: HostRuntime, w: Words, i: usize) -> bool {
-    let mut word = [0u8; 128];
-    let n = arguments::argument_or_none(rt, i, &mut word);
-    if does_begin(pump::part(&word, 0, n), b"authentication=") {
-        return false;
-    }
-    if i == w.name || i == w.label {
-        return false;
-    }
-    i != w.own && i != w.expected
-}
-
+// The argument at a place at the end of the line, behind a blank; the setting and the words that have a
+// place of their own are not copied there.
 fn put_one(rt: HostRuntime, out: &mut [u8], at: usize, w: Words, i: usize) -> usize {
-    if is_further(rt, w, i) {
-        let a = put_words(&mut *out, at, b" ");
-        return put_argument(rt, out, a, i, b"");
+    let mut buf = [0u8; 128];
+    let n = arguments::argument(rt, i, &mut buf).unwrap_or(0);
+    let word = pump::part(&buf, 0, n);
+    if w.has_place(i) || word.starts_with(b"authentication=") {
+        return at;
     }
-    at
+    let a = put_words(&mut *out, at, b" ");
+    put_words(out, a, word)
 }
 
 // The words behind the period, as they stand among the arguments.
 fn put_further(rt: HostRuntime, out: &mut [u8], at: usize, w: Words) -> usize {
-    let count = arguments::count(rt);
     let mut next = at;
-    let mut i: usize = 1;
-    while i < count {
+    for i in 1..arguments::count(rt) {
         next = put_one(rt, &mut *out, next, w, i);
-        i += 1;
     }
     next
 }
@@ -90,60 +85,32 @@ fn put_read(rt: HostRuntime, out: &mut [u8], w: Words, discriminator: u32, perio
     put_session(rt, out, e, w, discriminator, period)
 }
 
-fn put_reason(out: &mut [u8], at: usize, n: u32, authentication: u16) -> usize {
-    if n == 16 {
-        return put_words(
-            out,
-            at,
-            b"an entry, padding included, runs past its holder's end\n",
-        );
+fn reason_of(refusal: Refusal, authentication: u16) -> &'static [u8] {
+    match (refusal, authentication) {
+        (Refusal::PastHolder, _) => b"an entry, padding included, runs past its holder's end\n",
+        (Refusal::WrongLength, _) => b"a known entry has a length that its layout does not allow\n",
+        (Refusal::NotOnce, _) => b"a needed entry is missing or there twice\n",
+        (_, 1 | 2) => b"authentication= names a type that another entry has\n",
+        _ => b"the discriminator is 0, or the period not 1000 to 10000000\n",
     }
-    if n == 17 {
-        return put_words(
-            out,
-            at,
-            b"a known entry has a length that its layout does not allow\n",
-        );
-    }
-    if n == 18 {
-        return put_words(out, at, b"a needed entry is missing or there twice\n");
-    }
-    if authentication == 1 || authentication == 2 {
-        return put_words(
-            out,
-            at,
-            b"authentication= names a type that another entry has\n",
-        );
-    }
-    put_words(
-        out,
-        at,
-        b"the discriminator is 0, or the period not 1000 to 10000000\n",
-    )
 }
 
-fn put_refused(out: &mut [u8], n: u32, authentication: u16) -> usize {
+fn put_refused(out: &mut [u8], refusal: Refusal, authentication: u16) -> usize {
     let a = put_words(&mut *out, 0, b"# refused ");
-    let b = put_decimal(&mut *out, a, n as u64);
+    let b = put_decimal(&mut *out, a, u32::from(refusal) as u64);
     let c = put_words(&mut *out, b, b": ");
-    put_reason(out, c, n, authentication)
+    put_words(out, c, reason_of(refusal, authentication))
 }
 
 pub(crate) fn put_answer(
     rt: HostRuntime,
     out: &mut [u8],
     w: Words,
-    a: ConfigurationAnswer,
+    a: Result<Offer, Refusal>,
 ) -> usize {
     match a {
-        ConfigurationAnswer::Read(discriminator, period) => put_read(
-            rt,
-            out,
-            w,
-            discriminator,
-            period,
-        ),
-        ConfigurationAnswer::Refused(n) => put_refused(out, n, w.authentication),
+        Ok(offer) => put_read(rt, out, w, offer.discriminator, offer.period),
+        Err(refusal) => put_refused(out, refusal, w.type_in_use()),
     }
 }
 

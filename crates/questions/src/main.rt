@@ -8,109 +8,74 @@
 
 mod asking;
 
-use stored::say;
+use stored::{say, with_named};
 
-// How far the answers are as expected, and whether all so far were.
-#[derive(Clone, Copy)]
-struct Held {
-    at: usize,
-    good: bool,
-}
-
-fn say_question(rt: HostRuntime, line: &[u8], text: &[u8]) {
-    say(rt, b": ");
-    say(rt, line);
-    stored::say_differs(rt, text);
-}
-
-// A question of a capture that comes in steps of so many octets. Its text is the next of the answers.
-fn hold_in_steps(
+// A question of a capture that comes in pieces of so many octets. Its text is what the answers begin with,
+// and those behind it are left; none where it is not.
+fn hold_in_pieces<'a>(
     rt: HostRuntime,
     line: &[u8],
     capture: &[u8],
-    step: usize,
-    answers: &[u8],
-    at: usize,
-) -> Held {
+    size: usize,
+    answers: &'a [u8],
+) -> Option<&'a [u8]> {
     let mut out = [0u8; 1024];
-    let n = asking::text_of(asking::question_of(line), capture, step, &mut out);
+    let n = asking::text_of(asking::question_of(line), capture, size, &mut out);
     let text = octets::part(&out, 0, n);
-    let good = text == octets::part(answers, at, text.len());
-    if !good {
-        say_question(rt, line, text);
+    let left = answers.strip_prefix(text);
+    if left.is_none() {
+        stored::say_answer_differs(rt, line, text);
     }
-    Held {
-        at: pump::advance(at, text.len(), answers.len()),
-        good: good,
-    }
+    left
 }
 
-// Both ways; nothing more once a text differs.
-fn hold(rt: HostRuntime, h: Held, line: &[u8], capture: &[u8], answers: &[u8]) -> Held {
-    if !h.good {
-        return h;
-    }
-    let whole = hold_in_steps(rt, line, capture, capture.len(), answers, h.at);
-    if !whole.good {
-        return whole;
-    }
-    hold_in_steps(rt, line, capture, 7, answers, h.at)
+// Both ways the same, a line with its end.
+fn hold<'a>(rt: HostRuntime, line: &[u8], capture: &[u8], answers: &'a [u8]) -> Option<&'a [u8]> {
+    let asked = line.strip_suffix(b"\n").unwrap_or(line);
+    hold_in_pieces(rt, asked, capture, capture.len(), answers)?;
+    hold_in_pieces(rt, asked, capture, 7, answers)
 }
 
-// Every line of the questions.
-fn hold_all(rt: HostRuntime, questions: &[u8], capture: &[u8], answers: &[u8]) -> Held {
-    let mut h = Held { at: 0, good: true };
-    let mut from: usize = 0;
-    let mut i: usize = 0;
-    while i < questions.len() {
-        if questions[i] == b'\n' {
-            h = hold(rt, h, pump::part(questions, from, i), capture, answers);
-            from = i + 1;
-        }
-        i += 1;
-    }
-    h
-}
-
-// No answer is left over either.
+// Every line of the questions. No answer is left over either.
 fn run(rt: HostRuntime, questions: &[u8], capture: &[u8], answers: &[u8]) {
-    let h = hold_all(rt, questions, capture, answers);
-    if !h.good {
-        return;
+    let held = stored::folded_lines(
+        questions,
+        answers,
+        |left, line| hold(rt, line, capture, left),
+    );
+    match held {
+        Some([]) => stored::say_holds(rt, stored::line_count(questions), b" questions"),
+        Some(_) => say(rt, b": answers are left\n"),
+        None => {}
     }
-    if h.at < answers.len() {
-        say(rt, b": answers are left\n");
-        return;
-    }
-    stored::say_holds(rt, stored::line_count(questions), b" questions");
 }
 
 // The capture that argument i names.
 fn run_named(rt: HostRuntime, i: usize) {
     let mut name = [0u8; 4_096];
-    let n = arguments::argument_or_none(rt, i, &mut name);
-    say(rt, &name[..n]);
-    let mut capture = [0u8; 65_536];
-    let given = stored::read_named(rt, &mut name, n, b".capture", &mut capture);
-    let mut questions = [0u8; 65_536];
-    let asked = stored::read_named(rt, &mut name, n, b".questions", &mut questions);
-    let mut answers = [0u8; 65_536];
-    let wanted = stored::read_named(rt, &mut name, n, b".answers", &mut answers);
-    if !given.whole || !asked.whole || !wanted.whole {
-        say(rt, b": cannot be read\n");
-        return;
-    }
-    let size = given.size;
-    let lines = asked.size;
-    let texts = wanted.size;
-    run(rt, &questions[..lines], &capture[..size], &answers[..texts]);
+    let n = arguments::argument(rt, i, &mut name).unwrap_or(0);
+    let name = &name[..n];
+    say(rt, name);
+    with_named(
+        rt,
+        name,
+        b".capture",
+        |capture| with_named(
+            rt,
+            name,
+            b".questions",
+            |questions| with_named(
+                rt,
+                name,
+                b".answers",
+                |answers| run(rt, questions, capture, answers),
+            ),
+        ),
+    );
 }
 
 fn main(rt: HostRuntime) {
-    let count = arguments::count(rt);
-    let mut i: usize = 1;
-    while i < count {
+    for i in 1..arguments::count(rt) {
         run_named(rt, i);
-        i += 1;
     }
 }

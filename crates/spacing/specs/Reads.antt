@@ -1,10 +1,11 @@
 -- The reads of `spacing`, one behind the other. The contract of a read gives a bound for the number that it answers, and says nothing of octets. That those
 -- read are the input's is left to the call itself.
 -- Assumes nothing.
-use Rattle.std.specs.Prelude.{ℕ, ◌≤◌, ◌≡◌, true, false, List, length, take, Result, Ok, Err}
+use Rattle.std.specs.Prelude.{ℕ, ◌≤◌, ◌≡◌, false, List, length, take, Result, Ok, Err}
 use Rattle.gauge.specs.Gauging.{Gauged, got_of}
 use Rattle.gauge.specs.Held.{Held, Piece, with_piece, Fits}
 use Rattle.spacing.specs.declared.Looked.{Looked}
+use Rattle.spacing.specs.declared.Next.TheVariants.{Read}
 
 abbrev pub looking : Looked → List ℕ → Gauged
 looking r buf = record { gauge = r.gauge; buf = buf }
@@ -21,7 +22,7 @@ Told x (Err e) r buf = Stayed x r buf
 
 -- another read is made only where the numbers are not known
 abbrev pub Goes : Gauged → Looked → Type 0
-Goes x r = x.gauge.over ≡ false → r.go ≡ true → r.gauge.over ≡ false
+Goes x r = x.gauge.over ≡ false → r.next ≡ Read → r.gauge.over ≡ false
 
 pub record AfterRead {E : Type 0} (x : Gauged) (z : Result ℕ E) (r : Looked) (buf : List ℕ) : Type 0 where
   pub told : Told x z r buf

@@ -7,62 +7,57 @@ ghost use Rattle.std.specs.Prelude.{◌≡◌, false, ◌≤◌, length};
 ghost use Rattle.std.specs.Io.{ReadsAtMost};
 ghost use Rattle.capture.specs.Typing.{typed};
 ghost use Rattle.gauge.specs.Gauging.{text_of};
+ghost use Rattle.inquiry.specs.Questions.{question_in};
 ghost use Rattle.spacing.specs.Reads.{looking, AfterRead, OneRead, Reached};
 ghost use Rattle.spacing.specs.Labels.{is_label};
 
 use gauge::Gauge;
 use inquiry::Question;
-use octets::both;
 use std::io;
 use std::io::Read;
 
-// What is held after a read, whether another one is to be made, and where not whether the numbers are
-// known.
+// What is to be done behind a read: another one, the answer, or nothing where it failed.
+#[derive(Clone, Copy)]
+enum Next {
+    Read,
+    Answer,
+    Nothing,
+}
+
+// What is held after a read, and what is to be done.
 #[derive(Clone, Copy)]
 struct Looked {
     gauge: Gauge,
-    go: bool,
-    known: bool,
+    next: Next,
 }
 
 // ---- the label
-// One argument more, read as `why` reads its own. One that does not fit its buffer is no word.
-fn take_argument(rt: HostRuntime, q: Question, i: usize) -> Question {
-    let mut word = [0u8; 64];
-    match arguments::argument(rt, i, &mut word) {
-        Some(n) => inquiry::take_word(q, pump::part(&word, 0, n)),
-        None => inquiry::take_word(q, b""),
-    }
-}
-
-// All arguments behind the program's name.
-fn words(rt: HostRuntime) -> Question {
-    let mut q = inquiry::no_question();
-    let count = arguments::count(rt);
-    let mut i: usize = 1;
-    while i < count {
-        q = take_argument(rt, q, i);
-        i += 1;
-    }
-    q
+// All arguments behind the program's name, read as `why` reads its own. One that does not fit its buffer
+// is no word.
+fn words(rt: HostRuntime) -> Option<Question> {
+    arguments::folded(
+        rt,
+        &mut [0u8; 64],
+        inquiry::no_question(),
+        |q, _i, word| inquiry::take_word(q, word),
+    )
 }
 
 // A label, and nothing behind it.
-fn is_label(q: Question) -> bool
-    ensures { result ≡ is_label q }
+fn is_label(q: Option<Question>) -> bool
+    ensures { result ≡ is_label (question_in q) }
 {
-    both(q.good, both(q.labelled, q.kind == 0))
+    match q {
+        Some(q) => q.label.is_some() && q.thing.is_none(),
+        None => false,
+    }
 }
 
 // ---- the capture
-fn looks(gauge: Gauge, go: bool, known: bool) -> Looked
-    ensures { result ≡ record { gauge = gauge; go = go; known = known } }
+fn looks(gauge: Gauge, next: Next) -> Looked
+    ensures { result ≡ record { gauge = gauge; next = next } }
 {
-    Looked {
-        gauge,
-        go: go,
-        known: known,
-    }
+    Looked { gauge, next }
 }
 
 fn records_of(g: Gauge) -> u64 {
@@ -75,14 +70,14 @@ fn after_read(rt: HostRuntime, g: Gauge, got: io::Result<usize>, buf: &mut [u8])
     ensures { AfterRead (record { gauge = g; buf = buf.old }) got result buf.new }
 {
     match got {
-        Ok(0) => looks(g, false, true),
+        Ok(0) => looks(g, Next::Answer),
         Ok(n) => {
-            let next = gauge::got(g, n, buf);
-            looks(next, !next.over, next.over)
+            let h = gauge::got(g, n, buf);
+            looks(h, if h.over { Next::Answer } else { Next::Read })
         }
         Err(error) => {
-            let go = syscall::is_again(rt.stderr(), b"spacing", false, error, records_of(g));
-            looks(g, go, false)
+            let again = syscall::is_again(rt.stderr(), b"spacing", false, error, records_of(g));
+            looks(g, if again { Next::Read } else { Next::Nothing })
         }
     }
 }
@@ -103,18 +98,14 @@ fn run(rt: HostRuntime, label: u32, buf: &mut [u8]) -> Looked
     requires { 2064 ≤ length buf.old }
     ensures { Reached label (looking result buf.new) }
 {
-    let mut g = gauge::start(label);
-    let mut go = true;
-    let mut known = false;
-    let mut turns = u64::MAX;
-    while turns > 0 && go {
-        let x = read_on(rt, g, &mut *buf);
-        g = x.gauge;
-        go = x.go;
-        known = x.known;
-        turns -= 1;
+    let mut x = looks(gauge::start(label), Next::Read);
+    for _turn in 0..u64::MAX {
+        match x.next {
+            Next::Read => x = read_on(rt, x.gauge, &mut *buf),
+            Next::Answer | Next::Nothing => break,
+        }
     }
-    looks(g, go, known)
+    x
 }
 
 // ---- the line
@@ -129,7 +120,7 @@ fn answer(rt: HostRuntime, label: u32) {
     let mut buf = [0u8; 262_144];
     let mut out = [0u8; 128];
     let x = run(rt, label, &mut buf);
-    if x.known {
+    if let Next::Answer = x.next {
         let g = x.gauge;
         let n = put_line(&mut out, g);
         syscall::write_text(rt, b"spacing", &out, n, records_of(g));
@@ -139,7 +130,7 @@ fn answer(rt: HostRuntime, label: u32) {
 fn main(rt: HostRuntime) {
     let q = words(rt);
     if is_label(q) {
-        answer(rt, q.label);
+        answer(rt, inquiry::label_of(q));
     } else {
         let mut out = [0u8; 128];
         let n = gauge::put_usage(&mut out, 0);

@@ -10,140 +10,79 @@ mod asking;
 
 use stored::say;
 
-fn say_asked(rt: HostRuntime, asked: &[u8], text: &[u8]) {
-    say(rt, b": ");
-    say(rt, asked);
-    stored::say_differs(rt, text);
-}
-
-// The spacing of a label in a capture that comes in steps of so many octets.
-fn hold_in_steps(
+// The spacing of a label in a capture that comes in pieces of so many octets.
+fn holds_in_pieces(
     rt: HostRuntime,
-    asked: &[u8],
+    line: &[u8],
     label: u32,
     capture: &[u8],
-    step: usize,
+    size: usize,
     wanted: &[u8],
 ) -> bool {
     let mut out = [0u8; 128];
-    let n = asking::line_of(label, capture, step, &mut out);
+    let n = asking::line_of(label, capture, size, &mut out);
     let text = octets::part(&out, 0, n);
     let good = text == wanted;
     if !good {
-        say_asked(rt, asked, text);
+        stored::say_answer_differs(rt, line, text);
     }
     good
 }
 
-// Both ways.
-fn hold_both(rt: HostRuntime, asked: &[u8], label: u32, capture: &[u8], wanted: &[u8]) -> bool {
-    if !hold_in_steps(rt, asked, label, capture, capture.len(), wanted) {
-        return false;
-    }
-    hold_in_steps(rt, asked, label, capture, 7, wanted)
+// Both ways, a line with its end; none where one differs.
+fn hold(rt: HostRuntime, line: &[u8], capture: &[u8]) -> Option<()> {
+    let asked = asking::asked_in(line);
+    let front = match asked.records {
+        Some(records) => asking::front_of(capture, records),
+        None => capture,
+    };
+    let good = holds_in_pieces(rt, line, asked.label, front, front.len(), asked.wanted)
+        && holds_in_pieces(rt, line, asked.label, front, 7, asked.wanted);
+    good.then_some(())
 }
 
-// A line with its end: one word and ` => `, or two.
-fn hold_line(rt: HostRuntime, line: &[u8], capture: &[u8]) -> bool {
-    let first = asking::space_from(line, 0);
-    let word = octets::part(line, 0, first);
-    let rest = octets::from_place(line, first);
-    if octets::part(rest, 0, 4) == b" => ".as_slice() {
-        return hold_both(
-            rt,
-            line,
-            asking::number_of(word),
-            capture,
-            octets::from_place(rest, 4),
-        );
-    }
-    let behind = octets::from_place(rest, 1);
-    let second = asking::space_from(behind, 0);
-    let label = asking::number_of(octets::part(behind, 0, second));
-    let n = asking::front_of(capture, asking::number_of(word));
-    let front = octets::part(capture, 0, n);
-    hold_both(
-        rt,
-        line,
-        label,
-        front,
-        octets::from_place(octets::from_place(behind, second), 4),
-    )
-}
-
-// Every line; nothing more once one differs.
-fn hold_all(rt: HostRuntime, lines: &[u8], capture: &[u8]) -> bool {
-    let mut good = true;
-    let mut from: usize = 0;
-    let mut i: usize = 0;
-    while i < lines.len() {
-        if lines[i] == b'\n' {
-            if good {
-                good = hold_line(rt, pump::part(lines, from, i + 1), capture);
-            }
-            from = i + 1;
-        }
-        i += 1;
-    }
-    good
-}
-
-// The lines of a file that stands beside a capture, and whether it is there.
+// The lines of a file that stands beside a capture; none where it is not there.
 fn run_lines(
     rt: HostRuntime,
-    name: &mut [u8],
-    n: usize,
+    name: &[u8],
     ending: &[u8],
     capture: &[u8],
     what: &[u8],
-) -> bool {
+) -> Option<()> {
     let mut lines = [0u8; 65_536];
-    let asked = stored::read_named(rt, &mut *name, n, ending, &mut lines);
-    if !asked.whole {
-        return false;
+    let n = stored::read_named(rt, name, ending, &mut lines)?;
+    let lines = &lines[..n];
+    say(rt, name);
+    if stored::folded_lines(lines, (), |_all, line| hold(rt, line, capture)).is_some() {
+        stored::say_holds(rt, stored::line_count(lines), what);
     }
-    say(rt, octets::part(name, 0, n));
-    let size = asked.size;
-    if hold_all(rt, &lines[..size], capture) {
-        stored::say_holds(rt, stored::line_count(&lines[..size]), what);
-    }
-    true
+    Some(())
 }
 
-fn say_unread(rt: HostRuntime, name: &[u8], n: usize) {
-    say(rt, octets::part(name, 0, n));
-    say(rt, b": cannot be read\n");
+fn say_unread(rt: HostRuntime, name: &[u8]) {
+    say(rt, name);
+    stored::say_unread(rt);
 }
 
 // The capture that argument i names. One has lines of its first records too.
 fn run_named(rt: HostRuntime, i: usize) {
     let mut name = [0u8; 4_096];
-    let n = arguments::argument_or_none(rt, i, &mut name);
+    let n = arguments::argument(rt, i, &mut name).unwrap_or(0);
+    let name = &name[..n];
     let mut capture = [0u8; 65_536];
-    let given = stored::read_named(rt, &mut name, n, b".capture", &mut capture);
-    if !given.whole {
-        say_unread(rt, &name, n);
+    let Some(size) = stored::read_named(rt, name, b".capture", &mut capture) else {
+        say_unread(rt, name);
         return;
+    };
+    let capture = &capture[..size];
+    if run_lines(rt, name, b".spacings", capture, b" labels").is_none() {
+        say_unread(rt, name);
     }
-    let size = given.size;
-    if !run_lines(rt, &mut name, n, b".spacings", &capture[..size], b" labels") {
-        say_unread(rt, &name, n);
-    }
-    run_lines(
-        rt,
-        &mut name,
-        n,
-        b".fronts",
-        &capture[..size],
-        b" labels of first records",
-    );
+    run_lines(rt, name, b".fronts", capture, b" labels of first records");
 }
 
 fn main(rt: HostRuntime) {
-    let count = arguments::count(rt);
-    let mut i: usize = 1;
-    while i < count {
+    for i in 1..arguments::count(rt) {
         run_named(rt, i);
-        i += 1;
     }
 }

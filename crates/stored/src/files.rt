@@ -1,35 +1,24 @@
 // Files by name and ending.
-ghost use Rattle.std.specs.Prelude.{◌≤◌, length};
+ghost use Rattle.std.specs.Prelude.{◌≤◌, IfSome, length};
 ghost use Rattle.std.specs.Counts.{IsPrefixLen};
 
 use crate::texts::put_text;
-use std::fs::File;
 use std::io::Read;
 
-// How many octets of a file were read, and whether they are all of it.
-#[derive(Clone, Copy)]
-pub struct Content {
-    pub size: usize,
-    pub whole: bool,
-}
-
 // One read. One that fails brings nothing.
-fn read_on(file: &mut File, into: &mut [u8]) -> usize
+fn read_on<R: Read>(from: &mut R, into: &mut [u8]) -> usize
     ensures { result ≤ length into.new }
 {
-    match file.read(into) {
-        Ok(n) => n,
-        Err(_) => 0,
-    }
+    from.read(into).unwrap_or(0)
 }
 
 // Read by read, until the buffer is full or a read brings nothing.
-fn read_full(file: &mut File, into: &mut [u8]) -> usize
+pub fn read_full<R: Read>(from: &mut R, into: &mut [u8]) -> usize
     ensures { IsPrefixLen result into.new }
 {
     let mut done: usize = 0;
     while done < into.len() {
-        let n = read_on(&mut *file, &mut into[done..]);
+        let n = read_on(&mut *from, &mut into[done..]);
         if n == 0 {
             break;
         }
@@ -38,33 +27,27 @@ fn read_full(file: &mut File, into: &mut [u8]) -> usize
     done
 }
 
-// The file whose name stands in the first n octets, with an ending behind it. It is read whole if it
-// is there and shorter than the buffer.
-pub fn read_named(
-    rt: HostRuntime,
-    name: &mut [u8],
-    n: usize,
-    ending: &[u8],
-    into: &mut [u8],
-) -> Content
-    ensures { IsPrefixLen result.size into.new }
+// How many octets a file has, which is named by a name and an ending behind it. None: it is not there, or
+// is not shorter than the buffer.
+pub fn read_named(rt: HostRuntime, name: &[u8], ending: &[u8], into: &mut [u8]) -> Option<usize>
+    ensures { IfSome result (λ n. IsPrefixLen n into.new) }
 {
-    let end = put_text(&mut *name, n, ending);
-    match arguments::opened(rt, &name[..end]) {
-        Some(file) => read_whole(file, into),
-        None => Content {
-            size: 0,
-            whole: false,
-        },
-    }
+    let mut path = [0u8; 4_096];
+    let n = put_text(&mut path, 0, name);
+    let end = put_text(&mut path, n, ending);
+    let mut file = arguments::opened(rt, &path[..end])?;
+    let size = read_full(&mut file, &mut *into);
+    (size < into.len()).then_some(size)
 }
 
-fn read_whole(mut file: File, into: &mut [u8]) -> Content
-    ensures { IsPrefixLen result.size into.new }
+// What is done with a file, which is named by a name and an ending behind it. That it cannot be read is
+// said.
+pub fn with_named<F: FnOnce(&[u8])>(rt: HostRuntime, name: &[u8], ending: &[u8], run: F)
+    requires { F.IsAlwaysCallable run }
 {
-    let size = read_full(&mut file, &mut *into);
-    Content {
-        size: size,
-        whole: size < into.len(),
+    let mut into = [0u8; 65_536];
+    match read_named(rt, name, ending, &mut into) {
+        Some(n) => run(&into[..n]),
+        None => crate::say_unread(rt),
     }
 }

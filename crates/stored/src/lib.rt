@@ -1,12 +1,12 @@
-// What the programs over stored captures share: files by name and ending, a capture taken in steps,
-// text in buffers, and what they print.
+// What the programs over stored captures share: files by name and ending, a capture taken in pieces,
+// text in buffers, its lines taken one after the other, and what they print.
 #![tactic(auto)]
 
 mod files;
 mod texts;
 
-pub use files::{Content, read_named};
-pub use texts::{further, line_count, put_text};
+pub use files::{read_full, read_named, with_named};
+pub use texts::{folded_lines, further, line_count, put_text};
 
 // What cannot be written is left out.
 pub fn say(rt: HostRuntime, text: &[u8]) {
@@ -23,10 +23,22 @@ pub fn say_differs(rt: HostRuntime, text: &[u8]) {
     say(rt, text);
 }
 
+// A text that is not the one expected for what is asked in a line.
+pub fn say_answer_differs(rt: HostRuntime, line: &[u8], text: &[u8]) {
+    say(rt, b": ");
+    say(rt, line);
+    say_differs(rt, text);
+}
+
 // So many of something are as expected.
 pub fn say_holds(rt: HostRuntime, count: u64, what: &[u8]) {
     say(rt, b": ");
     say_number(rt, count);
     say(rt, what);
     say(rt, b", as expected\n");
+}
+
+// A file that is not there, or does not fit its buffer.
+pub fn say_unread(rt: HostRuntime) {
+    say(rt, b": cannot be read\n");
 }

@@ -1,29 +1,15 @@
-// Text in buffers: put at a place, taken a step further, and its lines counted.
-ghost use Rattle.std.specs.Prelude.{◌≤◌};
+// Text in buffers: put at a place, taken a step further, and its lines counted and taken.
 ghost use Rattle.std.specs.Counts.{IsPrefixLen};
-
-fn least(a: usize, b: usize) -> usize
-    ensures { (result ≤ a) × (result ≤ b) }
-{
-    if a < b {
-        return a;
-    }
-    b
-}
 
 // Puts text at a place, as far as there is room, and answers the place behind it.
 pub fn put_text(out: &mut [u8], at: usize, text: &[u8]) -> usize
     ensures { IsPrefixLen result out.new }
 {
-    if at >= out.len() {
+    if out.len() <= at {
         return out.len();
     }
-    let n = least(text.len(), out.len() - at);
-    let mut i: usize = 0;
-    while i < n {
-        out[at + i] = text[i];
-        i += 1;
-    }
+    let n = text.len().min(out.len() - at);
+    out[at..at + n].copy_from_slice(&text[..n]);
     at + n
 }
 
@@ -31,30 +17,23 @@ pub fn put_text(out: &mut [u8], at: usize, text: &[u8]) -> usize
 pub fn further(have: usize, step: usize, all: &[u8]) -> usize
     ensures { IsPrefixLen result all.now }
 {
-    let n = all.len();
-    if have < n {
-        if step < n - have {
-            return have + step;
-        }
-    }
-    n
-}
-
-fn ends_line(b: u8) -> u64
-    ensures { result ≤ 1 }
-{
-    if b == b'\n' {
-        return 1;
-    }
-    0
+    have.saturating_add(step).min(all.len())
 }
 
 pub fn line_count(text: &[u8]) -> u64 {
-    let mut n: u64 = 0;
-    let mut i: usize = 0;
-    while i < text.len() {
-        n += ends_line(text[i]);
-        i += 1;
+    text.iter().filter(|&&b| b == b'\n').count() as u64
+}
+
+// What the lines of a text make, each taken with its end behind those before it; none from the first on
+// that makes none. What has no end is no line.
+pub fn folded_lines<T, F: Fn(T, &[u8]) -> Option<T>>(text: &[u8], first: T, take: F) -> Option<T>
+    requires { F.IsAlwaysCallable take }
+{
+    let mut all = first;
+    for line in text.split_inclusive(|&b| b == b'\n') {
+        if line.ends_with(b"\n") {
+            all = take(all, line)?;
+        }
     }
-    n
+    Some(all)
 }

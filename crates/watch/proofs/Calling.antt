@@ -3,13 +3,12 @@
 use Prim.Native.Nat.{ℕ, ◌-◌, ◌≤◌}
 use native.Mathlib.Omega.{arith}
 use mathlib.Core.Path.{◌≡◌, refl, sym, ap, subst, ◌∙◌}
-use mathlib.Core.Bool.{true, false}
 use mathlib.Core.List.{List, [], ◌∷◌, ◌++◌}
 use lib.Dec.{eqb}
 use lib.ListN.{length, take}
 use borrow.Author.Tests.{eqb-true, eqb-false}
 use borrow.Rule.Slice.PartMut.{mid_of}
-use Rattle.std.specs.Prelude.{Result, Ok, Err}
+use Rattle.std.specs.Prelude.{◌≢◌, Result, Ok, Err}
 use Rattle.std.specs.Io.{ReadsAtMost, WritesAtMost}
 use Rattle.rules.proofs.Bools.{no_way, split}
 use Rattle.pump.specs.declared.Pump.{Pump}
@@ -20,27 +19,32 @@ use Rattle.pump.proofs.Between.{wants-read, wants-write, wants-nothing}
 use Rattle.pump.proofs.Watching.{watched-more, answered-more, text-written}
 use Rattle.syscall.proofs.Answers.{left, part_room, left_is, left-length, left_there}
 use Rattle.watch.specs.declared.Called.{Called}
+use Rattle.watch.specs.declared.Next.TheVariants.{Turn, Again, Stop}
 use Rattle.watch.specs.Calls.{Failed, AfterRead, AfterWrite, Answer, Alike, CallMade, Reached}
 
 -- ---- one call
+pub stops : (r : Called) → r.next ≡ Stop → r.next ≢ Turn
+stops r s t = cc
+
+pub made_again : (r : Called) → r.next ≡ Again → r.next ≢ Turn
+made_again r s t = cc
+
 module _ (x : Pumped) (r : Called) (buf : List ℕ) where
-  call-moved : (p : Pump) → r ≡ record { core = p; moved = true; go = true } → (wants_of x.pump ≡ Nothing → ⊥)
+  call-moved : (p : Pump) → r ≡ record { core = p; next = Turn } → (wants_of x.pump ≡ Nothing → ⊥)
       → Answer x (record { pump = p; buf = buf; out = x.out }) → CallMade x r buf
   call-moved p e some a =
       record {
         moving = λ m. subst (λ (v : Pump). Answer x (record { pump = v; buf = buf; out = x.out })) (sym (ap (λ (c : Called). c.core) e)) a;
-        staying = λ s. no_way (ap (λ (c : Called). c.moved) e) s;
-        going = λ m. ap (λ (c : Called). c.go) e;
+        staying = λ s. absurd (s (ap (λ (c : Called). c.next) e));
         ending = λ n. absurd (some n);
       }
 
-  pub call-stayed : Failed x.pump r → (wants_of x.pump ≡ Nothing → r.go ≡ false)
+  pub call-stayed : Failed x.pump r → (wants_of x.pump ≡ Nothing → r.next ≡ Stop)
       → Alike x (record { pump = x.pump; buf = buf; out = x.out }) → CallMade x r buf
   call-stayed e end a =
       record {
-        moving = λ m. no_way m e.1;
+        moving = λ m. absurd (e.1 m);
         staying = λ s. subst (λ (q : Pump). Alike x (record { pump = q; buf = buf; out = x.out })) (sym e.0) a;
-        going = λ m. no_way m e.1;
         ending = end;
       }
 
@@ -159,10 +163,10 @@ module _ (buf out : List ℕ) where
 
     -- as a call says of itself, with a turn behind it or not
     module _ (r : Called) (left : List ℕ) (made : CallMade x r left) where
-      pub reached-turn : r.moved ≡ true → (y : Pumped) → y ≡ turn_of r.core left x.out → Reached buf out y
+      pub reached-turn : r.next ≡ Turn → (y : Pumped) → y ≡ turn_of r.core left x.out → Reached buf out y
       reached-turn m y e = subst (λ (v : Pumped). Reached buf out v) (sym e) (reached-moves _ (made.moving m))
 
-      pub reached-same : r.moved ≡ false → Reached buf out (record { pump = r.core; buf = left; out = x.out })
+      pub reached-same : r.next ≢ Turn → Reached buf out (record { pump = r.core; buf = left; out = x.out })
       reached-same s = reached-stays _ (made.staying s)
 
   -- so what `pump` proves of its loop holds of the program, however far it has come

@@ -4,7 +4,7 @@
 // made, and nothing else.
 #![tactic(auto)]
 
-ghost use Rattle.std.specs.Prelude.{ℕ, ◌≡◌, true, false, List, length};
+ghost use Rattle.std.specs.Prelude.{ℕ, ◌≡◌, List, length};
 ghost use Rattle.std.specs.Io.{ReadsAtMost, WritesAtMost};
 ghost use Rattle.pump.specs.declared.Wanted.TheVariants.{Read, Write};
 ghost use Rattle.pump.specs.Pumping.{wants_of};
@@ -14,33 +14,26 @@ use pump::{Pump, Wanted};
 use std::io;
 use std::io::{Error, ErrorKind, Read, Write};
 
-// The core after a system call, whether the call moved anything or found the end, and whether it
-// goes on.
+// What is to be done behind a system call: the core's turn where it moved something or found the end, the
+// same call again, or nothing more.
+#[derive(Clone, Copy)]
+enum Next {
+    Turn,
+    Again,
+    Stop,
+}
+
+// The core after a system call, and what is to be done.
 #[derive(Clone, Copy)]
 struct Called {
     core: Pump,
-    moved: bool,
-    go: bool,
+    next: Next,
 }
 
-fn moved(core: Pump) -> Called
-    ensures { result ≡ record { core = core; moved = true; go = true } }
+fn behind(core: Pump, next: Next) -> Called
+    ensures { result ≡ record { core = core; next = next } }
 {
-    Called {
-        core,
-        moved: true,
-        go: true,
-    }
-}
-
-fn stayed(core: Pump, go: bool) -> Called
-    ensures { result ≡ record { core = core; moved = false; go = go } }
-{
-    Called {
-        core,
-        moved: false,
-        go: go,
-    }
+    Called { core, next }
 }
 
 // A call that was only interrupted is made again, and behind any other that failed nothing more is
@@ -49,8 +42,8 @@ fn failed(rt: HostRuntime, core: Pump, writing: bool, error: Error) -> Called
     ensures { Failed core result }
 {
     let number = core.table.fed.number;
-    let go = syscall::is_again(rt.stderr(), b"watch", writing, error, number);
-    stayed(core, go)
+    let again = syscall::is_again(rt.stderr(), b"watch", writing, error, number);
+    behind(core, if again { Next::Again } else { Next::Stop })
 }
 
 // What one read answered. None is the end of the input.
@@ -59,7 +52,7 @@ fn after_read(rt: HostRuntime, core: Pump, got: io::Result<usize>, buf: &[u8]) -
     ensures { AfterRead core (length buf.now) got result }
 {
     match got {
-        Ok(n) => moved(pump::got(core, n, buf)),
+        Ok(n) => behind(pump::got(core, n, buf), Next::Turn),
         Err(error) => failed(rt, core, false, error),
     }
 }
@@ -72,7 +65,7 @@ fn after_write(rt: HostRuntime, core: Pump, took: io::Result<usize>, part: &[u8]
 {
     match took {
         Ok(0) => failed(rt, core, true, Error::from(ErrorKind::WriteZero)),
-        Ok(n) => moved(pump::took(core, n)),
+        Ok(n) => behind(pump::took(core, n), Next::Turn),
         Err(error) => failed(rt, core, true, error),
     }
 }
@@ -105,7 +98,7 @@ fn call(rt: HostRuntime, core: Pump, buf: &mut [u8], out: &[u8]) -> Called
     match wanted {
         Wanted::Read => read_on(rt, core, buf),
         Wanted::Write => write_on(rt, core, out),
-        Wanted::Nothing => stayed(core, false),
+        Wanted::Nothing => behind(core, Next::Stop),
     }
 }
 
@@ -115,16 +108,14 @@ fn run(rt: HostRuntime, buf: &mut [u8], out: &mut [u8]) -> Pump
     ensures { Reached buf.old out.old (record { pump = result; buf = buf.new; out = out.new }) }
 {
     let mut core = pump::start();
-    let mut go = true;
-    let mut turns = u64::MAX;
-    while turns > 0 && go {
-        let called = call(rt, core, &mut *buf, &*out);
-        core = called.core;
-        go = called.go;
-        if called.moved {
-            core = pump::turn(core, &mut *buf, &mut *out);
+    for _turn in 0..u64::MAX {
+        let made = call(rt, core, &mut *buf, &*out);
+        core = made.core;
+        match made.next {
+            Next::Turn => core = pump::turn(core, &mut *buf, &mut *out),
+            Next::Again => {}
+            Next::Stop => break,
         }
-        turns -= 1;
     }
     core
 }

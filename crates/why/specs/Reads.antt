@@ -1,10 +1,11 @@
 -- The reads of `why`, one behind the other. The contract of a read gives a bound for the number that it answers, and says nothing of octets. That those
 -- read are the input's is left to the call itself.
 -- Assumes nothing.
-use Rattle.std.specs.Prelude.{ℕ, ◌≤◌, ◌≡◌, true, false, List, length, take, Result, Ok, Err}
+use Rattle.std.specs.Prelude.{ℕ, ◌≤◌, ◌≡◌, false, List, length, take, Result, Ok, Err}
 use Rattle.inquiry.specs.Searching.{Searched, got_of}
 use Rattle.inquiry.specs.Sought.{Sought, Piece, with_piece, Fits}
 use Rattle.why.specs.declared.Looked.{Looked}
+use Rattle.why.specs.declared.Next.TheVariants.{Read}
 
 abbrev pub looking : Looked → List ℕ → List ℕ → Searched
 looking r buf kept = record { search = r.search; buf = buf; kept = kept }
@@ -22,7 +23,7 @@ Told x (Err e) r buf kept = Stayed x r buf kept
 
 -- another read is made only where the answer is not known
 abbrev pub Goes : Searched → Looked → Type 0
-Goes x r = x.search.over ≡ false → r.go ≡ true → r.search.over ≡ false
+Goes x r = x.search.over ≡ false → r.next ≡ Read → r.search.over ≡ false
 
 pub record AfterRead {E : Type 0} (x : Searched) (z : Result ℕ E) (r : Looked) (buf kept : List ℕ) : Type 0 where
   pub told : Told x z r buf kept

@@ -14,46 +14,37 @@ use inquiry::{Question, Search};
 use std::io;
 use std::io::Read;
 
-// The search after a read, whether another one is to be made, and where not whether the answer is
-// known.
+// What is to be done behind a read: another one, the answer, or nothing where it failed.
+#[derive(Clone, Copy)]
+enum Next {
+    Read,
+    Answer,
+    Nothing,
+}
+
+// The search after a read, and what is to be done.
 #[derive(Clone, Copy)]
 struct Looked {
     search: Search,
-    go: bool,
-    known: bool,
+    next: Next,
 }
 
 // ---- the question
-// One argument more. One that does not fit its buffer is no word of a question.
-fn take_argument(rt: HostRuntime, q: Question, i: usize) -> Question {
-    let mut word = [0u8; 64];
-    match arguments::argument(rt, i, &mut word) {
-        Some(n) => inquiry::take_word(q, pump::part(&word, 0, n)),
-        None => inquiry::take_word(q, b""),
-    }
-}
-
-// All arguments behind the program's name.
-fn words(rt: HostRuntime) -> Question {
-    let mut q = inquiry::no_question();
-    let count = arguments::count(rt);
-    let mut i: usize = 1;
-    while i < count {
-        q = take_argument(rt, q, i);
-        i += 1;
-    }
-    q
+// All arguments behind the program's name. One that does not fit its buffer is no word of a question.
+fn words(rt: HostRuntime) -> Option<Question> {
+    arguments::folded(
+        rt,
+        &mut [0u8; 64],
+        inquiry::no_question(),
+        |q, _i, word| inquiry::take_word(q, word),
+    )
 }
 
 // ---- the capture
-fn looks(search: Search, go: bool, known: bool) -> Looked
-    ensures { result ≡ record { search = search; go = go; known = known } }
+fn looks(search: Search, next: Next) -> Looked
+    ensures { result ≡ record { search = search; next = next } }
 {
-    Looked {
-        search,
-        go: go,
-        known: known,
-    }
+    Looked { search, next }
 }
 
 fn records_of(s: Search) -> u64 {
@@ -72,14 +63,14 @@ fn after_read(
     ensures { AfterRead (record { search = s; buf = buf.old; kept = kept.old }) got result buf.new kept.new }
 {
     match got {
-        Ok(0) => looks(s, false, true),
+        Ok(0) => looks(s, Next::Answer),
         Ok(n) => {
-            let next = inquiry::got(s, n, buf, kept);
-            looks(next, !next.over, next.over)
+            let t = inquiry::got(s, n, buf, kept);
+            looks(t, if t.over { Next::Answer } else { Next::Read })
         }
         Err(error) => {
-            let go = syscall::is_again(rt.stderr(), b"why", false, error, records_of(s));
-            looks(s, go, false)
+            let again = syscall::is_again(rt.stderr(), b"why", false, error, records_of(s));
+            looks(s, if again { Next::Read } else { Next::Nothing })
         }
     }
 }
@@ -100,18 +91,14 @@ fn run(rt: HostRuntime, label: u32, upto: u64, buf: &mut [u8], kept: &mut [u8]) 
     requires { 2064 ≤ length buf.old }
     ensures { Reached label upto kept.old (looking result buf.new kept.new) }
 {
-    let mut s = inquiry::start(label, upto);
-    let mut go = true;
-    let mut known = false;
-    let mut turns = u64::MAX;
-    while turns > 0 && go {
-        let x = read_on(rt, s, &mut *buf, &mut *kept);
-        s = x.search;
-        go = x.go;
-        known = x.known;
-        turns -= 1;
+    let mut x = looks(inquiry::start(label, upto), Next::Read);
+    for _turn in 0..u64::MAX {
+        match x.next {
+            Next::Read => x = read_on(rt, x.search, &mut *buf, &mut *kept),
+            Next::Answer | Next::Nothing => break,
+        }
     }
-    looks(s, go, known)
+    x
 }
 
 // ---- the answer
@@ -122,12 +109,18 @@ fn put_answer(out: &mut [u8], s: Search, buf: &[u8], kept: &[u8], thing: Thing) 
     inquiry::put_text(out, inquiry::ended(s), buf, kept, thing)
 }
 
-fn answer(rt: HostRuntime, q: Question) {
+fn answer(rt: HostRuntime, q: Option<Question>) {
     let mut buf = [0u8; 262_144];
     let mut kept = [0u8; 2_048];
     let mut out = [0u8; 1_024];
-    let x = run(rt, q.label, q.upto, &mut buf, &mut kept);
-    if x.known {
+    let x = run(
+        rt,
+        inquiry::label_of(q),
+        inquiry::upto_of(q),
+        &mut buf,
+        &mut kept,
+    );
+    if let Next::Answer = x.next {
         let s = x.search;
         let n = put_answer(&mut out, s, &buf, &kept, inquiry::thing_of(q));
         syscall::write_text(rt, b"why", &out, n, records_of(s));

@@ -1,33 +1,27 @@
--- calls that are left.
 use mathlib.Core.Path.{refl, ◌∙◌}
 use Rattle.pump.specs.Pumping.{Pumped}
-use Rattle.watch.proofs.Calling.{reached-first, reached-turn, reached-same}
+use Rattle.watch.proofs.Calling.{reached-first, reached-turn, reached-same, made_again}
 use Rattle.watch.proofs.run.Goals as goal
-use Rattle.watch.proofs.run.Goals.{then-called, else-called}
+use Rattle.watch.proofs.run.Goals.{in-Turn, in-Again}
 
-pub loop-turns-init : goal.loop-turns-init
-loop-turns-init c = let a = c.args in
+pub loop-turn-init : goal.loop-turn-init
+loop-turn-init c = let a = c.args in
     (refl, refl, rw c.start-core.ensures (reached-first a.buf.now a.out.now))
 
-pub loop-turns-preserved : goal.loop-turns-preserved
-loop-turns-preserved c =
+pub loop-turn-preserved : goal.loop-turn-preserved
+loop-turn-preserved c =
     let a = c.args in
-    let x : Pumped = record { pump = c.loop-turns.core; buf = c.loop-turns.buf; out = c.loop-turns.out } in
-    let room = c.call-called.auto.buf ∙ c.loop-turns.invariant.0 in (
-      c.if-called.auto.buf ∙ room,
-      c.if-called.auto.out ∙ c.loop-turns.invariant.1,
-      elim c.if-called.branch [
-        | then-called w ↦
+    let x : Pumped = record { pump = c.loop-turn.core; buf = c.loop-turn.buf; out = c.loop-turn.out } in
+    let r = c.call-made.result in
+    let i = c.loop-turn.invariant in (
+      c.match-made.auto.buf ∙ c.call-made.auto.buf ∙ i.0,
+      c.match-made.auto.out ∙ i.1,
+      elim c.match-made.branch [
+        | in-Turn w ↦
             rw (w.buf-is, w.out-is, w.core-is)
-            (reached-turn a.buf.now a.out.now x c.loop-turns.invariant.2 c.call-called.result c.call-called.new.buf c.call-called.ensures w.if-called.true _ w.turn-core.ensures)
-        | else-called w ↦
+            (reached-turn a.buf.now a.out.now x i.2 r c.call-made.new.buf c.call-made.ensures w.in-Turn.is _ w.turn-core.ensures)
+        | in-Again w ↦
             rw (w.buf-is, w.out-is, w.core-is)
-            (reached-same a.buf.now a.out.now x c.loop-turns.invariant.2 c.call-called.result c.call-called.new.buf c.call-called.ensures w.if-called.false)
+            (reached-same a.buf.now a.out.now x i.2 r c.call-made.new.buf c.call-made.ensures (made_again r w.in-Again.is))
       ],
     )
-
-pub returns-else-go : goal.returns-else-go
-returns-else-go c = c.loop-turns.invariant.2
-
-pub returns-after-loop-turns : goal.returns-after-loop-turns
-returns-after-loop-turns c = c.loop-turns.invariant.2

@@ -1,12 +1,10 @@
 use mathlib.Core.Path.{◌≡◌}
-use mathlib.Core.Bool.{true, false}
+use mathlib.Core.Bool.{false}
 use lib.ListN.{length}
-use Rattle.why.specs.Reads.{Reached}
+use Rattle.why.specs.declared.Next.TheVariants.{Read}
+use Rattle.why.specs.Reads.{looking, Reached}
 use Rattle.why.proofs.run.Given as goal
 
-abbrev pub invariant-loop-turns : goal.invariant-loop-turns
-invariant-loop-turns l =
-    (length l.buf ≡ length l.initial.buf) × (length l.kept ≡ length l.initial.kept) × (l.go ≡ true → l.s.over ≡ false) × Reached l.label l.upto l.initial.kept (record { search = l.s; buf = l.buf; kept = l.kept })
-
-abbrev pub decreases-loop-turns : goal.decreases-loop-turns
-decreases-loop-turns l = l.turns
+abbrev pub invariant-loop-turn : goal.invariant-loop-turn
+invariant-loop-turn l =
+    (length l.buf ≡ length l.initial.buf) × (length l.kept ≡ length l.initial.kept) × (l.x.next ≡ Read → l.x.search.over ≡ false) × Reached l.label l.upto l.initial.kept (looking l.x l.buf l.kept)

@@ -2,7 +2,7 @@ use Rattle.std.proofs.Common.{length, ◌-◌, ◌≤◌, ◌≡◌}
 use Rattle.stored.proofs.files.read_full.Given as goal
 
 abbrev pub invariant-loop-done : goal.invariant-loop-done
-invariant-loop-done l = (l.done ≤ length l.into) × (length l.into ≡ length l.initial.into)
+invariant-loop-done g l = (l.done ≤ length l.into) × (length l.into ≡ length l.initial.into)
 
 abbrev pub decreases-loop-done : goal.decreases-loop-done
-decreases-loop-done l = length l.initial.into - l.done
+decreases-loop-done g l = length l.initial.into - l.done

@@ -1,4 +1,0 @@
-use Rattle.korvezul.proofs.requests.write_cc_request.Goals as goal
-
-pub returns : goal.returns
-returns c = rw c.meant.ensures

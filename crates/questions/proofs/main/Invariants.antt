@@ -1,9 +1,0 @@
--- `questions::main` is safe and ends: the measure is the number of arguments that are left.
-use Prim.Native.Nat.{◌-◌}
-use Rattle.questions.proofs.main.Given as goal
-
-abbrev pub invariant-loop-i : goal.invariant-loop-i
-invariant-loop-i l = Unit {0}
-
-abbrev pub decreases-loop-i : goal.decreases-loop-i
-decreases-loop-i l = l.count - l.i
