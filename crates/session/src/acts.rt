@@ -126,7 +126,9 @@ fn cv_live(s: Session, reading: u64) -> Live
     live
 }
 
-// What a crossed CC or CV leaves.
+// What a crossed CC or CV leaves. Inline: called, it needs the record in memory of its own, and every message then copies a
+// record twice, 58 instructions of a feed's record.
+#[inline(always)]
 #[tactic(auto, unfolding(crate::specs::Steps::crossed_at))]
 fn crossed_live(s: Session, reading: u64) -> Live
     ensures { result ≡ live_of (crossed_at s reading) }
