@@ -64,6 +64,5 @@ pub fn packet_octets(p: Packet, channel: u16) -> [u8; 28]
 pub fn write_cc(b: &mut [u8], p: Packet) -> Result<(), Refusal>
     ensures { record { answer = refusal_in result; buffer = b.new } ≡ writing (cc_field_refusal p) (cc_octets p) b.old }
 {
-    cc_field_refusal(p)?;
-    octets::write_octets(b, &packet_octets(p, CC_CHANNEL))
+    octets::write_unless_refused(b, cc_field_refusal(p), &packet_octets(p, CC_CHANNEL))
 }

@@ -34,8 +34,10 @@ pub fn write_configuration(
 ) -> Result<(), Refusal>
     ensures { record { answer = refusal_in result; buffer = buffer.new } ≡ writing (offer_refusal discriminator period) (configuration_octets discriminator period) buffer.old }
 {
-    if !offer_fits(discriminator, period) {
-        return Err(Refusal::OutOfRange);
-    }
-    octets::write_octets(buffer, &configuration_octets(discriminator, period))
+    let found = if offer_fits(discriminator, period) {
+        Ok(())
+    } else {
+        Err(Refusal::OutOfRange)
+    };
+    octets::write_unless_refused(buffer, found, &configuration_octets(discriminator, period))
 }

@@ -5,7 +5,7 @@ ghost use Rattle.octets.specs.Writing.{Written, writing};
 ghost use Rattle.coordination.specs.Octets.{field_refusal, status_tlv, switching_tlv, total_of, head_octets, filled, all_octets, dhc_octets};
 
 use crate::{DHC_CHANNEL, Dhc, NodeSwitching, PwStatus};
-use octets::{Refusal, put_octets, put_u16, put_u32, write_octets};
+use octets::{Refusal, put_octets, put_u16, put_u32, write_unless_refused};
 
 // How many octets a PW Status TLV is.
 fn status_size(s: Option<PwStatus>) -> u8
@@ -103,8 +103,7 @@ fn all_octets(d: Dhc) -> [u8; 56]
 pub fn write_dhc(b: &mut [u8], d: Dhc) -> Result<(), Refusal>
     ensures { record { answer = refusal_in result; buffer = b.new } ≡ writing (field_refusal d) (dhc_octets d) b.old }
 {
-    field_refusal(d)?;
     let o = all_octets(d);
     let size = 12 + total_size(d) as usize;
-    write_octets(b, &o[..size])
+    write_unless_refused(b, field_refusal(d), &o[..size])
 }

@@ -41,7 +41,6 @@ pub fn cv_octets(p: Packet, id: MepId) -> CvOctets
 pub fn write_cv(b: &mut [u8], p: Packet, id: MepId) -> Result<(), Refusal>
     ensures { record { answer = refusal_in result; buffer = b.new } ≡ writing (cv_field_refusal p id) (cv_octets p id) b.old }
 {
-    cv_field_refusal(p, id)?;
     let o = cv_octets(p, id);
-    octets::write_octets(b, &o.octets[..o.count])
+    octets::write_unless_refused(b, cv_field_refusal(p, id), &o.octets[..o.count])
 }

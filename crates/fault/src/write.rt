@@ -6,7 +6,7 @@ ghost use Rattle.fault.specs.Octets.{if_tlv, global_tlv, total_of, filled, head_
 
 use crate::read::range_refusal;
 use crate::{Fault, IfId};
-use octets::{Refusal, put_octets, put_u32, write_octets};
+use octets::{Refusal, put_octets, put_u32, write_unless_refused};
 
 // 10 for fields that are out of their range.
 pub fn field_refusal(f: Fault) -> Result<(), Refusal>
@@ -99,8 +99,7 @@ fn all_octets(f: Fault) -> [u8; 25]
 pub fn write_fault(b: &mut [u8], f: Fault) -> Result<(), Refusal>
     ensures { record { answer = refusal_in result; buffer = b.new } ≡ writing (field_refusal f) (fault_octets f) b.old }
 {
-    field_refusal(f)?;
     let o = all_octets(f);
     let size = 9 + total_size(f) as usize;
-    write_octets(b, &o[..size])
+    write_unless_refused(b, field_refusal(f), &o[..size])
 }

@@ -1,5 +1,6 @@
 // A record of any call but an open: 18 octets, and behind them a received message.
-ghost use Rattle.std.specs.Prelude.{◌≡◌, ◌++◌, length};
+ghost use Rattle.std.specs.Prelude.{◌≡◌, ◌≤◌, ◌+◌, ◌++◌, length};
+ghost use Rattle.std.proofs.lemmas.List.Edits.{sets};
 ghost use Rattle.octets.specs.Refusals.{refusal_in};
 ghost use Rattle.octets.specs.Writing.{writing};
 ghost use Rattle.logging.specs.Logging.{head_octets, call_fits, call_refusal, call_octets};
@@ -20,6 +21,17 @@ pub fn head_octets(what: Logged, size: u16) -> [u8; 18]
     o
 }
 
+// The octets of the body stand in b from place `at` on. They are put one by one: a copy of one lent run over another
+// calls `memmove`, and the library asks a card for `memcpy` and `memset` alone.
+fn put_body(b: &mut [u8], at: usize, body: &[u8])
+    requires { at + length body.now ≤ length b.old }
+    ensures { b.new ≡ sets b.old at body.now }
+{
+    for i in 0..body.len() {
+        b[at + i] = body[i];
+    }
+}
+
 // Writes two runs of octets over the front of b, or changes no byte.
 #[tactic(auto, using(crate::proofs::Runs::writes))]
 pub fn write_both(b: &mut [u8], head: &[u8], body: &[u8]) -> Result<(), Refusal>
@@ -29,7 +41,7 @@ pub fn write_both(b: &mut [u8], head: &[u8], body: &[u8]) -> Result<(), Refusal>
         return Err(Refusal::NoRoom);
     }
     put_octets(&mut *b, 0, head);
-    put_octets(b, head.len(), body);
+    put_body(b, head.len(), body);
     Ok(())
 }
 

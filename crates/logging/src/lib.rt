@@ -18,7 +18,7 @@ pub use openings::write_open;
 pub fn write_header(b: &mut [u8]) -> Result<(), Refusal>
     ensures { record { answer = refusal_in result; buffer = b.new } ≡ writing 0 header_octets b.old }
 {
-    calls::write_both(b, b"TPL\0\x01\0\0\0", &[])
+    octets::write_octets(b, b"TPL\0\x01\0\0\0")
 }
 
 // What was called on which label at which reading, by the kinds of a capture, and what it was answered.
