@@ -128,14 +128,13 @@ module _ {X N : Type 0} {w : Carried X} {note : X → Session → Record → Lis
           )
 
       -- the same of the parts that the code makes
-      pub made : (h : Fed) → h ≡ w.fed x → (r : Record) → r ≡ record_from (drop h.used input) → (body : List ℕ) → body ≡ body_in (drop h.used input) r.size → (l : ℕ) → l ≡ w.label x
-          → (b : Session) → b ≡ before_of (table_of row h.head) l r → (n : N) → n ≡ note x b r body → (o : Outcome) (zs : List Session) → Calls row h r input sound o zs
+      pub made : (h : Fed) → h ≡ w.fed x → (r : Record) → r ≡ record_from (drop h.used input) → (body : List ℕ) → body ≡ body_in (drop h.used input) r.size
+          → (n : N) → n ≡ note x (before_of t (w.label x) r) r body → (o : Outcome) (zs : List Session) → Calls row h r input sound o zs
           → (g : Fed) → g ≡ fed_on h r (length input) o.head h.written → (y : X) (ks : List ℕ) → record { carried = y; kept = ks } ≡ keep x g o.answer n body kept
           → ((w.fed x).used < (w.fed y).used) × (sound ≡ in_order t → trail zs y ks ≡ turn_of w input (trail row x kept))
-      made h eh r er body eb l el b ebe n en o zs called g eg y ks e =
+      made h eh r er body eb n en o zs called g eg y ks e =
           turned r (er ∙ ap (λ (q : Fed). record_from (drop q.used input)) eh) o zs (subst (λ (q : Fed). Calls row q r input sound o zs) eh called) n
-          (en ∙ ap (λ (q : Session). note x q r body) (ebe ∙ ap (λ (q : Fed). before_of (table_of row q.head) l r) eh ∙ ap (λ (i : ℕ). before_of t i r) el)
-          ∙ ap (note x (before_of t (w.label x) r) r) (eb ∙ ap (λ (q : Fed). body_in (drop q.used input) r.size) eh))
+          (en ∙ ap (note x (before_of t (w.label x) r) r) (eb ∙ ap (λ (q : Fed). body_in (drop q.used input) r.size) eh))
           g (eg ∙ ap (λ (q : Fed). fed_on q r (length input) o.head q.written) eh) y ks
           (e ∙ ap (λ (q : List ℕ). keep x g o.answer n q kept) (eb ∙ ap (λ (q : Fed). body_in (drop q.used input) r.size) eh))
 

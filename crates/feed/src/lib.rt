@@ -21,7 +21,7 @@ use records::{answer_line, message_line, more};
 pub use records::{behind, number_after};
 use session::Session;
 use table::Head;
-pub use watching::{Watch, watch_row};
+pub use watching::{Watch, session_before, watch_row};
 
 // How far a table is fed: clock and set, records so far, octets used and written.
 #[derive(Clone, Copy)]

@@ -44,6 +44,14 @@ pub trait Watch: Copy {
     fn note(self, before: Session, r: Record, body: &[u8]) -> Self::Note
         ensures { result ≡ noted self before r body.now };
 
+    // The same by the row as it is before the call. Where a note needs the record alone, nothing is
+    // looked for.
+    fn note_before(self, row: &[Session], r: Record, body: &[u8]) -> Self::Note
+        ensures { result ≡ noted self (before_of (table_of row.now (carried.fed self).head) (carried.label self) r) r body.now }
+    {
+        self.note(session_before(row, self.fed(), self.label(), r), r, body)
+    }
+
     // What is known behind the record.
     fn keep(self, fed: Fed, answer: u32, note: Self::Note, body: &[u8], kept: &mut [u8]) -> Self
         ensures { record { carried = result; kept = kept.new } ≡ kept_by self fed answer note body.now kept.old };
@@ -53,7 +61,7 @@ pub trait Watch: Copy {
 
 // The record of the label's session before the call: a record of another label looks for none. No
 // session has discriminator 0.
-fn session_before(row: &[Session], f: Fed, label: u32, r: Record) -> Session
+pub fn session_before(row: &[Session], f: Fed, label: u32, r: Record) -> Session
     ensures { result ≡ before_of (table_of row.now f.head) label r }
 {
     let occupied = if r.label == label { f.head.occupied } else { 0 };
@@ -74,7 +82,7 @@ fn watch_turn<W: Watch>(
     let f = x.fed();
     let r = record_at(input, f.used);
     let body = body_at(input, f.used, r.size as usize);
-    let n = x.note(session_before(&*row, f, x.label(), r), r, body);
+    let n = x.note_before(&*row, r, body);
     if r.kind == 5 {
         let o = receive_call(row, hints, sound, f, r, input);
         return x.keep(
