@@ -2,7 +2,8 @@
 // write.
 #![tactic(auto)]
 
-ghost use Rattle.syscall.specs.Reads.{IsWhatCame};
+ghost use Rattle.std.specs.Prelude.{◌≡◌};
+ghost use Rattle.syscall.specs.Reads.{IsWhatCame, failed_came};
 
 mod writing;
 
@@ -39,6 +40,13 @@ pub fn is_again(mut to: Stderr, name: &[u8], writing: bool, error: Error, number
     false
 }
 
+// What a read that failed came to: one that was only interrupted is made again.
+fn failed_came(again: bool) -> Came
+    ensures { result ≡ failed_came again }
+{
+    if again { Came::Again } else { Came::Failed }
+}
+
 // What a read came to by what it answered; of one that failed standard error is told.
 pub fn what_came(to: Stderr, name: &[u8], got: io::Result<usize>, number: u64) -> Came
     ensures { IsWhatCame got result }
@@ -46,11 +54,6 @@ pub fn what_came(to: Stderr, name: &[u8], got: io::Result<usize>, number: u64) -
     match got {
         Ok(0) => Came::End,
         Ok(n) => Came::Octets(n),
-        Err(error) => {
-            if is_again(to, name, false, error, number) {
-                return Came::Again;
-            }
-            Came::Failed
-        }
+        Err(error) => failed_came(is_again(to, name, false, error, number)),
     }
 }
