@@ -37,22 +37,13 @@ pub fn argument_or_none(rt: HostRuntime, i: usize, word: &mut [u8]) -> usize
     argument(rt, i, &mut *word).unwrap_or(0)
 }
 
-// What the arguments behind the program's name make, each taken with its place behind those before it.
-// One that does not fit the lent buffer is taken as an empty one.
-pub fn folded<T, F: Fn(T, usize, &[u8]) -> T>(
-    rt: HostRuntime,
-    word: &mut [u8],
-    first: T,
-    take: F,
-) -> T
-    requires { F.IsAlwaysCallable take }
+// The octets of the argument at a place, which stand from the lent buffer's front on. One that is not
+// there, or does not fit, has none.
+pub fn word(rt: HostRuntime, i: usize, buf: &mut [u8]) -> &[u8]
+    ensures { length result.now ≤ length buf.old }
 {
-    let mut all = first;
-    for i in 1..count(rt) {
-        let n = argument_or_none(rt, i, &mut *word);
-        all = take(all, i, &word[..n]);
-    }
-    all
+    let n = argument_or_none(rt, i, &mut *buf);
+    &buf[..n]
 }
 
 // The file of a name, for reading. A name is UTF-8 text.

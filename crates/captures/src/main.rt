@@ -7,7 +7,7 @@
 
 mod playing;
 
-use stored::with_named;
+use stored::named;
 
 // The capture fed in pieces of so many octets. A text that is not the one expected is printed.
 fn holds_in_pieces(rt: HostRuntime, capture: &[u8], size: usize, expected: &[u8]) -> bool {
@@ -28,18 +28,17 @@ fn hold(rt: HostRuntime, capture: &[u8], expected: &[u8]) {
     }
 }
 
-// The capture that argument i names.
-fn run_named(rt: HostRuntime, i: usize) {
+// The capture that argument i names. None: it cannot be read.
+fn run_named(rt: HostRuntime, i: usize) -> Option<()> {
     let mut name = [0u8; 4_096];
-    let n = arguments::argument(rt, i, &mut name).unwrap_or(0);
-    let name = &name[..n];
+    let name = arguments::word(rt, i, &mut name);
     stored::say(rt, name);
-    with_named(
-        rt,
-        name,
-        b".capture",
-        |capture| with_named(rt, name, b".lines", |expected| hold(rt, capture, expected)),
-    );
+    let mut capture = [0u8; 65_536];
+    let capture = named(rt, name, b".capture", &mut capture)?;
+    let mut expected = [0u8; 65_536];
+    let expected = named(rt, name, b".lines", &mut expected)?;
+    hold(rt, capture, expected);
+    Some(())
 }
 
 fn main(rt: HostRuntime) {

@@ -5,7 +5,7 @@
 // The pairs and what is said of them were worked out by hand (the .txt beside them).
 #![tactic(auto)]
 
-use stored::{say, say_number, with_named};
+use stored::{named, say, say_number};
 
 fn say_spaced(rt: HostRuntime, n: u64) {
     say(rt, b" ");
@@ -54,18 +54,17 @@ fn run(rt: HostRuntime, first: &[u8], second: &[u8]) {
     say(rt, b"\n");
 }
 
-// The pair that argument i names.
-fn run_named(rt: HostRuntime, i: usize) {
+// The pair that argument i names. None: it cannot be read.
+fn run_named(rt: HostRuntime, i: usize) -> Option<()> {
     let mut name = [0u8; 4_096];
-    let n = arguments::argument(rt, i, &mut name).unwrap_or(0);
-    let name = &name[..n];
+    let name = arguments::word(rt, i, &mut name);
     say(rt, name);
-    with_named(
-        rt,
-        name,
-        b".first",
-        |first| with_named(rt, name, b".second", |second| run(rt, first, second)),
-    );
+    let mut first = [0u8; 65_536];
+    let first = named(rt, name, b".first", &mut first)?;
+    let mut second = [0u8; 65_536];
+    let second = named(rt, name, b".second", &mut second)?;
+    run(rt, first, second);
+    Some(())
 }
 
 fn main(rt: HostRuntime) {

@@ -8,10 +8,10 @@
 
 mod asking;
 
-use stored::with_named;
+use stored::named;
 
-// A line with its end; none where the answer differs.
-fn hold(rt: HostRuntime, line: &[u8], log: &[u8]) -> Option<()> {
+// A line with its end.
+fn holds(rt: HostRuntime, line: &[u8], log: &[u8]) -> bool {
     let (label, rest) = asking::first_number(line);
     let (reading, answer) = asking::first_number(rest);
     let mut out = [0u8; 64];
@@ -21,27 +21,33 @@ fn hold(rt: HostRuntime, line: &[u8], log: &[u8]) -> Option<()> {
     if !good {
         stored::say_answer_differs(rt, line, text);
     }
-    good.then_some(())
+    good
+}
+
+// Every line, up to one where the answer differs.
+fn holds_all(rt: HostRuntime, lines: &[u8], log: &[u8]) -> bool {
+    stored::whole_lines(lines)
+        .split_inclusive(|&b| b == b'\n')
+        .all(|line| holds(rt, line, log))
 }
 
 fn run(rt: HostRuntime, lines: &[u8], log: &[u8]) {
-    if stored::folded_lines(lines, (), |_all, line| hold(rt, line, log)).is_some() {
+    if holds_all(rt, lines, log) {
         stored::say_holds(rt, stored::line_count(lines), b" questions");
     }
 }
 
-// The log that argument i names.
-fn run_named(rt: HostRuntime, i: usize) {
+// The log that argument i names. None: it cannot be read.
+fn run_named(rt: HostRuntime, i: usize) -> Option<()> {
     let mut name = [0u8; 4_096];
-    let n = arguments::argument(rt, i, &mut name).unwrap_or(0);
-    let name = &name[..n];
+    let name = arguments::word(rt, i, &mut name);
     stored::say(rt, name);
-    with_named(
-        rt,
-        name,
-        b".log",
-        |log| with_named(rt, name, b".asks", |lines| run(rt, lines, log)),
-    );
+    let mut log = [0u8; 65_536];
+    let log = named(rt, name, b".log", &mut log)?;
+    let mut lines = [0u8; 65_536];
+    let lines = named(rt, name, b".asks", &mut lines)?;
+    run(rt, lines, log);
+    Some(())
 }
 
 fn main(rt: HostRuntime) {

@@ -97,17 +97,16 @@ pub(crate) fn all_words(rt: HostRuntime) -> Option<Words> {
     if 17 < arguments::count(rt) {
         return None;
     }
-    let none = Words {
+    let mut words = Words {
         name: None,
         label: None,
         own: None,
         expected: None,
         authentication: None,
     };
-    arguments::folded(
-        rt,
-        &mut [0u8; 128],
-        Some(none),
-        |w, i, word| take_word(w?, i, word),
-    )
+    let mut buf = [0u8; 128];
+    for i in 1..arguments::count(rt) {
+        words = take_word(words, i, arguments::word(rt, i, &mut buf))?;
+    }
+    Some(words)
 }

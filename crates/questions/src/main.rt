@@ -8,7 +8,7 @@
 
 mod asking;
 
-use stored::{say, with_named};
+use stored::{named, say};
 
 // A question of a capture that comes in pieces of so many octets. Its text is what the answers begin with,
 // and those behind it are left; none where it is not.
@@ -36,42 +36,42 @@ fn hold<'a>(rt: HostRuntime, line: &[u8], capture: &[u8], answers: &'a [u8]) -> 
     hold_in_pieces(rt, asked, capture, 7, answers)
 }
 
-// Every line of the questions. No answer is left over either.
+// Every line of the questions. What is left of the answers; none where one is not as expected.
+fn hold_all<'a>(
+    rt: HostRuntime,
+    questions: &[u8],
+    capture: &[u8],
+    answers: &'a [u8],
+) -> Option<&'a [u8]> {
+    let mut left = answers;
+    for line in stored::whole_lines(questions).split_inclusive(|&b| b == b'\n') {
+        left = hold(rt, line, capture, left)?;
+    }
+    Some(left)
+}
+
+// No answer is left over either.
 fn run(rt: HostRuntime, questions: &[u8], capture: &[u8], answers: &[u8]) {
-    let held = stored::folded_lines(
-        questions,
-        answers,
-        |left, line| hold(rt, line, capture, left),
-    );
-    match held {
+    match hold_all(rt, questions, capture, answers) {
         Some([]) => stored::say_holds(rt, stored::line_count(questions), b" questions"),
         Some(_) => say(rt, b": answers are left\n"),
         None => {}
     }
 }
 
-// The capture that argument i names.
-fn run_named(rt: HostRuntime, i: usize) {
+// The capture that argument i names. None: it cannot be read.
+fn run_named(rt: HostRuntime, i: usize) -> Option<()> {
     let mut name = [0u8; 4_096];
-    let n = arguments::argument(rt, i, &mut name).unwrap_or(0);
-    let name = &name[..n];
+    let name = arguments::word(rt, i, &mut name);
     say(rt, name);
-    with_named(
-        rt,
-        name,
-        b".capture",
-        |capture| with_named(
-            rt,
-            name,
-            b".questions",
-            |questions| with_named(
-                rt,
-                name,
-                b".answers",
-                |answers| run(rt, questions, capture, answers),
-            ),
-        ),
-    );
+    let mut capture = [0u8; 65_536];
+    let capture = named(rt, name, b".capture", &mut capture)?;
+    let mut questions = [0u8; 65_536];
+    let questions = named(rt, name, b".questions", &mut questions)?;
+    let mut answers = [0u8; 65_536];
+    let answers = named(rt, name, b".answers", &mut answers)?;
+    run(rt, questions, capture, answers);
+    Some(())
 }
 
 fn main(rt: HostRuntime) {

@@ -35,12 +35,12 @@ struct Looked {
 // All arguments behind the program's name, read as `why` reads its own. One that does not fit its buffer
 // is no word.
 fn words(rt: HostRuntime) -> Option<Question> {
-    arguments::folded(
-        rt,
-        &mut [0u8; 64],
-        inquiry::no_question(),
-        |q, _i, word| inquiry::take_word(q, word),
-    )
+    let mut q = inquiry::no_question();
+    let mut buf = [0u8; 64];
+    for i in 1..arguments::count(rt) {
+        q = inquiry::take_word(q, arguments::word(rt, i, &mut buf));
+    }
+    q
 }
 
 // A label, and nothing behind it.

@@ -29,16 +29,22 @@ fn holds_in_pieces(
     good
 }
 
-// Both ways, a line with its end; none where one differs.
-fn hold(rt: HostRuntime, line: &[u8], capture: &[u8]) -> Option<()> {
+// Both ways, a line with its end.
+fn holds(rt: HostRuntime, line: &[u8], capture: &[u8]) -> bool {
     let asked = asking::asked_in(line);
     let front = match asked.records {
         Some(records) => asking::front_of(capture, records),
         None => capture,
     };
-    let good = holds_in_pieces(rt, line, asked.label, front, front.len(), asked.wanted)
-        && holds_in_pieces(rt, line, asked.label, front, 7, asked.wanted);
-    good.then_some(())
+    holds_in_pieces(rt, line, asked.label, front, front.len(), asked.wanted)
+        && holds_in_pieces(rt, line, asked.label, front, 7, asked.wanted)
+}
+
+// Every line, up to one where the spacing differs.
+fn holds_all(rt: HostRuntime, lines: &[u8], capture: &[u8]) -> bool {
+    stored::whole_lines(lines)
+        .split_inclusive(|&b| b == b'\n')
+        .all(|line| holds(rt, line, capture))
 }
 
 // The lines of a file that stands beside a capture; none where it is not there.
@@ -53,7 +59,7 @@ fn run_lines(
     let n = stored::read_named(rt, name, ending, &mut lines)?;
     let lines = &lines[..n];
     say(rt, name);
-    if stored::folded_lines(lines, (), |_all, line| hold(rt, line, capture)).is_some() {
+    if holds_all(rt, lines, capture) {
         stored::say_holds(rt, stored::line_count(lines), what);
     }
     Some(())
@@ -67,8 +73,7 @@ fn say_unread(rt: HostRuntime, name: &[u8]) {
 // The capture that argument i names. One has lines of its first records too.
 fn run_named(rt: HostRuntime, i: usize) {
     let mut name = [0u8; 4_096];
-    let n = arguments::argument(rt, i, &mut name).unwrap_or(0);
-    let name = &name[..n];
+    let name = arguments::word(rt, i, &mut name);
     let mut capture = [0u8; 65_536];
     let Some(size) = stored::read_named(rt, name, b".capture", &mut capture) else {
         say_unread(rt, name);

@@ -40,14 +40,20 @@ pub fn read_named(rt: HostRuntime, name: &[u8], ending: &[u8], into: &mut [u8]) 
     (size < into.len()).then_some(size)
 }
 
-// What is done with a file, which is named by a name and an ending behind it. That it cannot be read is
-// said.
-pub fn with_named<F: FnOnce(&[u8])>(rt: HostRuntime, name: &[u8], ending: &[u8], run: F)
-    requires { F.IsAlwaysCallable run }
+// The octets of a file, which is named by a name and an ending behind it. That it cannot be read is said.
+pub fn named<'a>(
+    rt: HostRuntime,
+    name: &[u8],
+    ending: &[u8],
+    into: &'a mut [u8],
+) -> Option<&'a [u8]>
+    ensures { IfSome result (λ file. length file.now ≤ length into.old) }
 {
-    let mut into = [0u8; 65_536];
-    match read_named(rt, name, ending, &mut into) {
-        Some(n) => run(&into[..n]),
-        None => crate::say_unread(rt),
+    match read_named(rt, name, ending, &mut *into) {
+        Some(n) => Some(&into[..n]),
+        None => {
+            crate::say_unread(rt);
+            None
+        }
     }
 }

@@ -1,12 +1,12 @@
 // What the programs over stored captures share: files by name and ending, a capture taken in pieces,
-// text in buffers, its lines taken one after the other, and what they print.
+// text in buffers, its lines, and what they print.
 #![tactic(auto)]
 
 mod files;
 mod texts;
 
-pub use files::{read_full, read_named, with_named};
-pub use texts::{folded_lines, further, line_count, put_text};
+pub use files::{named, read_full, read_named};
+pub use texts::{further, line_count, put_text, whole_lines};
 
 // What cannot be written is left out.
 pub fn say(rt: HostRuntime, text: &[u8]) {

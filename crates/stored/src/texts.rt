@@ -1,5 +1,7 @@
 // Text in buffers: put at a place, taken a step further, and its lines counted and taken.
+ghost use Rattle.std.specs.Prelude.{◌≡◌};
 ghost use Rattle.std.specs.Counts.{IsPrefixLen};
+ghost use Rattle.stored.specs.Lines.{line_count, whole_lines};
 
 // Puts text at a place, as far as there is room, and answers the place behind it.
 pub fn put_text(out: &mut [u8], at: usize, text: &[u8]) -> usize
@@ -20,20 +22,18 @@ pub fn further(have: usize, step: usize, all: &[u8]) -> usize
     have.saturating_add(step).min(all.len())
 }
 
-pub fn line_count(text: &[u8]) -> u64 {
+pub fn line_count(text: &[u8]) -> u64
+    ensures { result ≡ line_count text.now }
+{
     text.iter().filter(|&&b| b == b'\n').count() as u64
 }
 
-// What the lines of a text make, each taken with its end behind those before it; none from the first on
-// that makes none. What has no end is no line.
-pub fn folded_lines<T, F: Fn(T, &[u8]) -> Option<T>>(text: &[u8], first: T, take: F) -> Option<T>
-    requires { F.IsAlwaysCallable take }
+// The lines of a text. What has no end is no line.
+pub fn whole_lines(text: &[u8]) -> &[u8]
+    ensures { result.now ≡ whole_lines text.now }
 {
-    let mut all = first;
-    for line in text.split_inclusive(|&b| b == b'\n') {
-        if line.ends_with(b"\n") {
-            all = take(all, line)?;
-        }
+    match text.iter().rposition(|&b| b == b'\n') {
+        Some(last) => &text[..=last],
+        None => &text[..0],
     }
-    Some(all)
 }
