@@ -8,4 +8,3 @@ pub mod Goes
 pub mod Entire
 pub mod Stretches
 pub mod Together
-pub mod Stages

@@ -3,6 +3,7 @@
 use Rattle.std.specs.Prelude.{ℕ, zero, suc, min, ◌+◌, ◌-◌, Bool, true, false, cond, List, [], length, eqb, ltb}
 use Rattle.std.proofs.lemmas.List.Edits.{sets}
 use Rattle.octets.specs.Choice.{need}
+use Rattle.octets.specs.declared.refusals.Refusal.{Refusal}
 use Rattle.octets.specs.Refusals.{number_of}
 use Rattle.call_log.specs.declared.Point.{Point}
 use Rattle.call_log.specs.declared.Ended.{Ended}
@@ -27,19 +28,22 @@ pub record Indexing : Type 0 where
   pub answer : ℕ
   pub more : Bool
 
--- as the code says it
-abbrev pub answer_at : Stage → ℕ
-answer_at More = 0
-answer_at Over = 0
-answer_at (Refused r) = number_of r
+-- as the code says it, whatever it is that has the refusal's number
+abbrev pub answer_at : {N : Type 0} → (N → ℕ) → Stage N → ℕ
+answer_at n More = 0
+answer_at n Over = 0
+answer_at n (Refused r) = n r
 
-abbrev pub goes_on : Stage → Bool
+abbrev pub goes_on : {N : Type 0} → Stage N → Bool
 goes_on More = true
 goes_on Over = false
 goes_on (Refused r) = false
 
-abbrev pub indexing_of : Made → Indexing
-indexing_of x = record { point = x.point; place = x.place; count = x.count; label = x.label; answer = answer_at x.stage; more = goes_on x.stage }
+abbrev pub indexing_by : {N : Type 0} → (N → ℕ) → Made N → Indexing
+indexing_by n x = record { point = x.point; place = x.place; count = x.count; label = x.label; answer = answer_at n x.stage; more = goes_on x.stage }
+
+abbrev pub indexing_of : Made Refusal → Indexing
+indexing_of x = indexing_by number_of x
 
 -- a sum that stays at the greatest number
 abbrev pub further : ℕ → ℕ → ℕ

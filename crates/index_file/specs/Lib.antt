@@ -1,3 +1,4 @@
+pub mod Numbered
 pub mod Octets
 pub mod Files
 pub mod Seeking

@@ -7,6 +7,7 @@ use Rattle.octets.specs.Refusals.{number_of}
 use Rattle.rules.specs.Times.{latest}
 use Rattle.table.specs.Table.{absent}
 use Rattle.halving.specs.declared.Found.{Found}
+use Rattle.call_log.specs.declared.Told.{Told}
 use Rattle.halving.specs.Search.{found}
 use Rattle.call_log.specs.Reading.{Answer, entry_fits, refused_with}
 use Rattle.indexing.specs.declared.IndexHead.{IndexHead}
@@ -36,10 +37,17 @@ no_entry = record { clock = 0; place = 0; session = absent }
 abbrev pub refused_by : ℕ → Sought
 refused_by n = record { entry = no_entry; looked = 0; answer = n }
 
--- as the code says it
+-- as the code says it, whatever it is that has the refusal's number
+abbrev pub said_by : {N : Type 0} → (N → ℕ) → Result Used N → Sought
+said_by n (Ok x) = record { entry = x.entry; looked = x.looked; answer = 0 }
+said_by n (Err r) = refused_by (n r)
+
 abbrev pub said_of : Result Used Refusal → Sought
-said_of (Ok x) = record { entry = x.entry; looked = x.looked; answer = 0 }
-said_of (Err r) = refused_by (number_of r)
+said_of x = said_by number_of x
+
+abbrev pub told_by : {N : Type 0} → (N → ℕ) → Result Told N → Answer
+told_by n (Ok t) = record { answer = 0; looked = t.looked; report = t.report }
+told_by n (Err r) = refused_with (n r)
 
 -- the entry that is found is used if those looked at and itself are in range
 abbrev pub used_in : List ℕ → ℕ → ℕ → ℕ → Found → Sought

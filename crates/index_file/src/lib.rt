@@ -8,6 +8,7 @@
 #![tactic(auto)]
 
 mod blocks;
+mod numbered;
 mod reading;
 mod seeking;
 mod words;
@@ -15,6 +16,7 @@ mod writing;
 
 pub use blocks::{block, finish, start};
 use call_log::Point;
+pub use numbered::Numbered;
 use octets::Refusal;
 pub use reading::{entry_in, head_in};
 pub use seeking::{asked_from, place_of, sought_in};
@@ -38,23 +40,23 @@ pub struct Used {
 }
 
 // What is sought in an index file, or why it is not found.
-pub type Sought = Result<Used, Refusal>;
+pub type Sought<N = Refusal> = Result<Used, N>;
 
 // Whether another entry is to be put, the log has ended, or it is refused.
 #[derive(Clone, Copy, Debug, PartialEq, Eq)]
-pub enum Stage {
+pub enum Stage<N = Refusal> {
     More,
     Over,
-    Refused(Refusal),
+    Refused(N),
 }
 
 // How far a file is built: what stands before the next entry, the place of the next record of the log
 // there, how many entries there are, the label, and whether it goes on.
 #[derive(Clone, Copy)]
-pub struct Indexing {
+pub struct Indexing<N = Refusal> {
     pub point: Point,
     pub place: u64,
     pub count: usize,
     pub label: u32,
-    pub stage: Stage,
+    pub stage: Stage<N>,
 }

@@ -2,13 +2,12 @@
 // entry that was looked at is judged with its record, on the way to the one that was found.
 ghost use Rattle.std.specs.Prelude.{◌≡◌, ◌+◌, ◌≤◌};
 ghost use Rattle.octets.specs.Refusals.{refusal_in};
-ghost use Rattle.call_log.specs.Reading.{told_in};
 ghost use Rattle.index_file.specs.Files.{place_of, file_fits, head_of, clock_at, clocks_in, entry_at};
-ghost use Rattle.index_file.specs.Seeking.{fits_in, seek_refusal, said_of, sought_by, sought_in, asked_from};
+ghost use Rattle.index_file.specs.Seeking.{fits_in, seek_refusal, said_by, said_of, told_by, sought_by, sought_in, asked_from};
 
 use crate::reading::{entry_in, head_in};
-use crate::{Entry, Sought, Used};
-use call_log::{Answer, entry_fits};
+use crate::{Entry, Numbered, Sought, Used};
+use call_log::{Told, entry_fits};
 use halving::find;
 use indexing::{IndexHead, Ranged, answer_at, head_fits, judged};
 use octets::{Refusal, from_place, get_u64};
@@ -143,10 +142,18 @@ pub fn sought_in(index: &[u8], marked: bool, size: u64, label: u32, reading: u64
 
 // The answer, from the octets of the log behind the entry's place.
 #[tactic(auto, unfolding(crate::specs::Seeking::asked_from))]
-pub fn asked_from(x: Sought, window: &[u8], label: u32, reading: u64) -> Answer
-    ensures { told_in result ≡ asked_from (said_of x) window.now label reading }
+pub fn asked_from<N: Numbered>(
+    x: Sought<N>,
+    window: &[u8],
+    label: u32,
+    reading: u64,
+) -> Result<Told, N>
+    ensures { told_by N.numbered result ≡ asked_from (said_by N.numbered x) window.now label reading }
 {
     let u = x?;
     let e = u.entry;
-    answer_at(window, 0, e.session, e.clock, label, reading, u.looked)
+    match answer_at(window, 0, e.session, e.clock, label, reading, u.looked) {
+        Ok(told) => Ok(told),
+        Err(r) => Err(N::refused(r)),
+    }
 }

@@ -1,10 +1,11 @@
 // The line of an answer, put into a lent buffer.
 ghost use Rattle.std.specs.Prelude.{◌≡◌};
 ghost use Rattle.capture.specs.Typing.{typed};
-ghost use Rattle.call_log.specs.Reading.{told_in};
+ghost use Rattle.index_file.specs.Seeking.{told_by};
 ghost use Rattle.index_file.specs.Words.{refused_line, told_line, answer_line};
 
-use call_log::Answer;
+use crate::Numbered;
+use call_log::Told;
 use capture::{put_decimal, put_report, put_spaced, put_words};
 use rules::Report;
 
@@ -28,11 +29,11 @@ fn put_told(out: &mut [u8], at: usize, r: Report, looked: u64) -> usize
 
 // 0, the seven numbers of the report and the number of entries looked at; or the refusal's number.
 #[tactic(auto, unfolding(crate::specs::Words::answer_line))]
-pub fn put_answer(out: &mut [u8], at: usize, a: Answer) -> usize
-    ensures { record { buffer = out.new; at = result } ≡ typed (record { buffer = out.old; at = at }) (answer_line (told_in a)) }
+pub fn put_answer<N: Numbered>(out: &mut [u8], at: usize, a: Result<Told, N>) -> usize
+    ensures { record { buffer = out.new; at = result } ≡ typed (record { buffer = out.old; at = at }) (answer_line (told_by N.numbered a)) }
 {
     match a {
         Ok(t) => put_told(out, at, t.report, t.looked as u64),
-        Err(r) => put_refused(out, at, u32::from(r) as u64),
+        Err(r) => put_refused(out, at, r.number() as u64),
     }
 }
