@@ -12,14 +12,11 @@ use lib.ListN.{length, take, drop, get_or}
 use lib.Seq.{drop-cons}
 use borrow.Author.Tests.{ltb-true, ltb-false, lt-ltb, le-ltb, eqb-true, eq-eqb, ne_eqb}
 use Rattle.rules.proofs.Bools.{split, no_way}
-use Rattle.std.specs.Prelude.{Option as Held, Some, None, is_some, unwrap_or}
+use Rattle.std.specs.Prelude.{Option as Held, Some, None, unwrap_or}
 use Rattle.std.specs.Cmp.Lexicographic.{pointwise}
 use Rattle.std.specs.List.{position_or_len}
-use Rattle.rules.specs.declared.Key.{Key}
-use Rattle.cause.specs.declared.Thing.{Thing}
-use Rattle.cause.specs.declared.Thing.TheVariants.{Crossing, Loss, Condition, HeldBack}
-use Rattle.inquiry.specs.declared.question.Question.{Question as Words}
-use Rattle.inquiry.specs.Questions.{Number, Question, is_digit, number_from, number_in, no_number, within, up_to, numeral, slash_at, begins, is_word, word_if, word_global, word_upto, no_such, label_taken, thing_taken, interface_taken, global_taken, upto_taken, option_taken, word_taken, no_key, thing_of, kind_in, key_in, said}
+use Rattle.inquiry.specs.declared.question.Question.{Question}
+use Rattle.inquiry.specs.Questions.{Number, is_digit, number_from, number_in, no_number, within, up_to, numeral, slash_at, begins, is_word, word_if, word_global, word_upto, no_such, label_taken, thing_taken, interface_taken, global_taken, upto_taken, option_taken, word_taken}
 
 -- ---- a number
 pub digit-range : (d : ℕ) → is_digit d ≡ true → (48 ≤ d) × (d < 58)
@@ -136,62 +133,35 @@ yes b x y e = rw e
 no : {A : Type 0} (b : Bool) (x y : A) → b ≡ false → cond b x y ≡ y
 no b x y e = rw e
 
--- a thing that is said, or none
-by_thing : (o : Held Thing) (P : Held Thing → Type 0) → P None → P (Some Crossing) → P (Some Loss) → P (Some HeldBack) → ((k : Key) → P (Some (Condition k))) → P o
-by_thing None P n c l h k = n
-by_thing (Some Crossing) P n c l h k = c
-by_thing (Some Loss) P n c l h k = l
-by_thing (Some HeldBack) P n c l h k = h
-by_thing (Some (Condition x)) P n c l h k = k x
-
-abbrev of_kind : ℕ → Key → Thing
-of_kind n key = cond (eqb n 1) Crossing (cond (eqb n 2) Loss (cond (eqb n 3) HeldBack (Condition key)))
-
--- a thing that is said has a number
-pub has_kind : (t : Thing) → ltb 0 (kind_in (Some t)) ≡ true
-has_kind Crossing = refl
-has_kind Loss = refl
-has_kind (Condition k) = split (eqb k.kind 1) (λ e. rw e) (λ e. rw e)
-has_kind HeldBack = refl
-
-pub no_kind : (t : Thing) → eqb (kind_in (Some t)) 0 ≡ false
-no_kind Crossing = refl
-no_kind Loss = refl
-no_kind (Condition k) = split (eqb k.kind 1) (λ e. rw e) (λ e. rw e)
-no_kind HeldBack = refl
-
--- what is asked about
-pub thing_is : (q : Words) → unwrap_or q.thing (Condition no_key) ≡ thing_of (said q)
-unfolding thing_of
-thing_is q = by_thing q.thing (λ o. unwrap_or o (Condition no_key) ≡ of_kind (kind_in o) (key_in o)) refl refl refl refl
-    (λ k. split (eqb k.kind 1) (λ e. rw e) (λ e. rw e))
-
 -- ---- the word that is taken, by what was asked so far
-module _ (q : Words) (w : List ℕ) where
-  abbrev behind : Question
-  behind = cond (eqb (kind_in q.thing) 0) (thing_taken (said q) w) (option_taken (said q) w)
+module _ (q : Question) (w : List ℕ) (g : q.good ≡ true) where
+  abbrev behind-label : Question
+  behind-label = cond (eqb q.kind 0) (thing_taken q w) (option_taken q w)
 
-  pub word_label : q.label ≡ None → label_taken (said q) w ≡ word_taken (said q) w
+  abbrev behind-good : Question
+  behind-good = cond q.labelled behind-label (label_taken q w)
+
+  pub word_label : q.labelled ≡ false → label_taken q w ≡ word_taken q w
   unfolding word_taken
-  word_label e = sym (no (is_some q.label) behind (label_taken (said q) w) (ap is_some e))
+  word_label l = sym (yes q.good behind-good q g ∙ no q.labelled behind-label (label_taken q w) l)
 
-  module _ (l : ℕ) (e : q.label ≡ Some l) where
-    behind-label : word_taken (said q) w ≡ behind
+  module _ (l : q.labelled ≡ true) where
+    behind : word_taken q w ≡ behind-label
     unfolding word_taken
-    behind-label = yes (is_some q.label) behind (label_taken (said q) w) (ap is_some e)
+    behind = yes q.good behind-good q g ∙ yes q.labelled behind-label (label_taken q w) l
 
-    pub word_thing : q.thing ≡ None → thing_taken (said q) w ≡ word_taken (said q) w
-    word_thing n = sym (behind-label ∙ yes (eqb (kind_in q.thing) 0) _ _ (ap (λ (o : Held Thing). eqb (kind_in o) 0) n))
+    pub word_thing : q.kind ≡ 0 → thing_taken q w ≡ word_taken q w
+    word_thing k = sym (behind ∙ yes (eqb q.kind 0) (thing_taken q w) (option_taken q w) (eq-eqb q.kind 0 k))
 
-    pub word_option : (t : Thing) → q.thing ≡ Some t → option_taken (said q) w ≡ word_taken (said q) w
-    word_option t s = sym (behind-label ∙ no (eqb (kind_in q.thing) 0) _ _ (ap (λ (o : Held Thing). eqb (kind_in o) 0) s ∙ no_kind t))
+    pub word_option : (q.kind ≡ 0 → ⊥) → option_taken q w ≡ word_taken q w
+    word_option k = sym (behind ∙ no (eqb q.kind 0) (thing_taken q w) (option_taken q w) (ne_eqb q.kind 0 k))
 
--- words that are no question stay so
-pub word_none : (w : List ℕ) → no_such ≡ word_taken no_such w
+pub ruleset taken = (word_label, word_thing, word_option)
+
+-- words that are no question stay so, with all that they said
+pub word_kept : (q : Question) (w : List ℕ) → q.good ≡ false → q ≡ word_taken q w
 unfolding word_taken
-word_none w = refl
-
-pub ruleset taken = (word_label, word_thing, word_option, word_none)
+word_kept q w g = sym (no q.good _ q g)
 
 -- ---- the words behind the first two, by the front that is taken away
 module _ (q : Question) (w : List ℕ) where

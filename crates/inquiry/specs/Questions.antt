@@ -1,11 +1,11 @@
 -- The question that the arguments of `why` are, word by word.
 -- Assumes nothing.
-use Rattle.std.specs.Prelude.{ℕ, suc, ◌+◌, ◌-◌, ◌*◌, ◌^◌, Bool, true, false, cond, not, ◌&&◌, List, [], ◌∷◌, eqb, ltb, length, take, drop, Option as Held, Some, None, is_some, unwrap_or}
+use Rattle.std.specs.Prelude.{ℕ, suc, ◌+◌, ◌-◌, ◌*◌, ◌^◌, Bool, true, false, cond, not, ◌&&◌, List, [], ◌∷◌, eqb, ltb, length, take, drop, Option as Held, Some, None}
 use Rattle.std.proofs.Math.Option.{Option, none, some}
 use Rattle.rules.specs.declared.Key.{Key}
 use Rattle.cause.specs.declared.Thing.{Thing}
 use Rattle.cause.specs.declared.Thing.TheVariants.{Crossing, Loss, Condition, HeldBack}
-use Rattle.inquiry.specs.declared.question.Question.{Question as Words}
+use Rattle.inquiry.specs.declared.question.Question.{Question}
 
 -- ---- a number in decimal
 abbrev pub is_digit : ℕ → Bool
@@ -98,17 +98,6 @@ abbrev pub word_upto : List ℕ
 word_upto = 117 ∷ 112 ∷ 116 ∷ 111 ∷ 61 ∷ []
 
 -- ---- what is asked
--- what the words have asked so far: about which label, about what (0 not said yet, 1 crossing, 2 loss, 3 held back, 4 AIS, 5 LKR), of AIS and LKR with which key, up to
--- which record, and whether that was said. Not good: these words are no question
-pub record Question : Type 0 where
-  pub key : Key
-  pub upto : ℕ
-  pub label : ℕ
-  pub kind : ℕ
-  pub labelled : Bool
-  pub bounded : Bool
-  pub good : Bool
-
 abbrev pub key_anew_of : ℕ → Key
 key_anew_of kind = record { node = 0; interface = 0; global = 0; kind = kind; present = 0; carrier = 0 }
 
@@ -222,33 +211,7 @@ abbrev pub numbered : Held ℕ → Number
 numbered None = no_number
 numbered (Some n) = record { value = n; good = true }
 
--- a thing by its number, and its key
-abbrev pub kind_in : Held Thing → ℕ
-kind_in None = 0
-kind_in (Some Crossing) = 1
-kind_in (Some Loss) = 2
-kind_in (Some HeldBack) = 3
-kind_in (Some (Condition key)) = cond (eqb key.kind 1) 4 5
-
-abbrev pub key_in : Held Thing → Key
-key_in None = no_key
-key_in (Some Crossing) = no_key
-key_in (Some Loss) = no_key
-key_in (Some HeldBack) = no_key
-key_in (Some (Condition key)) = key
-
-abbrev pub said : Words → Question
-said q =
-    record {
-      key = key_in q.thing;
-      upto = unwrap_or q.upto 18446744073709551615;
-      label = unwrap_or q.label 0;
-      kind = kind_in q.thing;
-      labelled = is_some q.label;
-      bounded = is_some q.upto;
-      good = true;
-    }
-
-abbrev pub question_in : Held Words → Question
+-- what is asked with a word more, or words that are no question
+abbrev pub question_in : Held Question → Question
 question_in None = no_such
-question_in (Some q) = said q
+question_in (Some q) = q

@@ -1,19 +1,25 @@
 // The question from the program's arguments, word by word: the label, what is asked about, and what
 // may stand behind that in any order.
-ghost use Rattle.std.specs.Prelude.{◌≡◌, ◌&&◌, ◌+◌, ◌*◌, eqb, ltb};
-ghost use Rattle.inquiry.specs.Questions.{is_digit, within, numbered, numeral, small, slash_at, is_word, no_question, label_taken, thing_taken, key_anew, key_anew_of, kind_of, interface_taken, global_taken, upto_taken, option_taken, word_taken, is_asked, thing_of, kind_in, key_in, said, question_in};
+ghost use Rattle.std.specs.Prelude.{◌≡◌, true, ◌&&◌, ◌+◌, ◌*◌, eqb, ltb};
+ghost use Rattle.inquiry.specs.Questions.{is_digit, within, numbered, numeral, small, slash_at, is_word, no_question, no_such, label_taken, thing_taken, key_kind, key_anew, kind_of, interface_taken, global_taken, upto_taken, option_taken, word_taken, is_asked, thing_of, question_in};
 
 use cause::Thing;
 use octets::{from_place, part};
 use rules::Key;
 
-// What the words have asked so far: about which label, about what, and up to which record. Words that
-// are no question are none.
+// What the words have asked so far: about which label, about what (0 not said yet, 1 crossing, 2 loss,
+// 3 held back, 4 AIS, 5 LKR), of AIS and LKR with which key, up to which record, and whether that was
+// said. Not good: these words are no question. Marks and no `Option`s: what is promised of one holds
+// whatever the others are.
 #[derive(Clone, Copy)]
 pub struct Question {
-    pub label: Option<u32>,
-    pub thing: Option<Thing>,
-    pub upto: Option<u64>,
+    pub key: Key,
+    pub upto: u64,
+    pub label: u32,
+    pub kind: u8,
+    pub labelled: bool,
+    pub bounded: bool,
+    pub good: bool,
 }
 
 // ---- a number
@@ -71,74 +77,104 @@ fn is_word(w: &[u8], word: &[u8]) -> bool
 }
 
 // ---- what is asked
-// A key of a type, of which nothing is named yet.
+// The type of a condition's key.
+fn key_kind(kind: u8) -> u8
+    ensures { result ≡ key_kind kind }
+{
+    match kind {
+        4 => 1,
+        5 => 2,
+        _ => 0,
+    }
+}
+
+// A key for a thing, of which nothing is named yet.
 fn key_anew(kind: u8) -> Key
-    ensures { result ≡ key_anew_of kind }
+    ensures { result ≡ key_anew kind }
 {
     Key {
         node: 0,
         interface: 0,
         global: 0,
-        kind,
+        kind: key_kind(kind),
         present: 0,
         carrier: 0,
     }
 }
 
 // Nothing is asked yet.
-pub fn no_question() -> Option<Question>
-    ensures { question_in result ≡ no_question }
+pub fn no_question() -> Question
+    ensures { result ≡ no_question }
 {
-    Some(Question {
-        label: None,
-        thing: None,
-        upto: None,
-    })
+    Question {
+        key: key_anew(0),
+        upto: u64::MAX,
+        label: 0,
+        kind: 0,
+        labelled: false,
+        bounded: false,
+        good: true,
+    }
 }
 
-// The first word.
+// Words that are no question.
+fn no_such() -> Question
+    ensures { result ≡ no_such }
+{
+    Question {
+        upto: 0,
+        good: false,
+        ..no_question()
+    }
+}
+
+// The first word. From here on none stands for words that are no question.
 #[tactic(auto, unfolding(crate::specs::Questions::label_taken))]
 fn take_label(q: Question, w: &[u8]) -> Option<Question>
-    ensures { question_in result ≡ label_taken (said q) w.now }
+    ensures { question_in result ≡ label_taken q w.now }
 {
     let label = small_in(w)?;
     Some(Question {
-        label: Some(label),
+        label,
+        labelled: true,
         ..q
     })
 }
 
 #[tactic(auto, unfolding(crate::specs::Questions::kind_of))]
-fn thing_in(w: &[u8]) -> Option<Thing>
-    ensures kind { kind_in result ≡ kind_of w.now }
-    ensures key { key_in result ≡ key_anew (kind_of w.now) }
+fn kind_of(w: &[u8]) -> u8
+    ensures { result ≡ kind_of w.now }
 {
     if is_word(w, b"crossing") {
-        return Some(Thing::Crossing);
+        return 1;
     }
     if is_word(w, b"loss") {
-        return Some(Thing::Loss);
+        return 2;
     }
     if is_word(w, b"held-back") {
-        return Some(Thing::HeldBack);
+        return 3;
     }
     if is_word(w, b"ais") {
-        return Some(Thing::Condition(key_anew(1)));
+        return 4;
     }
     if is_word(w, b"lkr") {
-        return Some(Thing::Condition(key_anew(2)));
+        return 5;
     }
-    None
+    0
 }
 
 // The second word.
 #[tactic(auto, unfolding(crate::specs::Questions::thing_taken))]
 fn take_thing(q: Question, w: &[u8]) -> Option<Question>
-    ensures { question_in result ≡ thing_taken (said q) w.now }
+    ensures { question_in result ≡ thing_taken q w.now }
 {
-    let thing = thing_in(w)?;
+    let kind = kind_of(w);
+    if kind == 0 {
+        return None;
+    }
     Some(Question {
-        thing: Some(thing),
+        key: key_anew(kind),
+        kind,
         ..q
     })
 }
@@ -153,70 +189,59 @@ fn is_free(kind: u8, mark: u8) -> bool
 // What stands behind `if=`.
 #[tactic(auto, unfolding(crate::specs::Questions::interface_taken))]
 fn take_interface(q: Question, s: &[u8]) -> Option<Question>
-    ensures { question_in result ≡ interface_taken (said q) s.now }
+    ensures { question_in result ≡ interface_taken q s.now }
 {
     let at = slash_at(s);
     let node = small_in(part(s, 0, at))?;
     let interface = small_in(from_place(from_place(s, at), 1))?;
-    let Some(Thing::Condition(key)) = q.thing else {
-        return None;
-    };
-    if !is_free(key.kind, key.present) {
+    if !is_free(q.key.kind, q.key.present) {
         return None;
     }
-    let named = Key {
+    let key = Key {
         node,
         interface,
         present: 1,
-        ..key
+        ..q.key
     };
-    Some(Question {
-        thing: Some(Thing::Condition(named)),
-        ..q
-    })
+    Some(Question { key, ..q })
 }
 
 // What stands behind `global=`.
 #[tactic(auto, unfolding(crate::specs::Questions::global_taken))]
 fn take_global(q: Question, s: &[u8]) -> Option<Question>
-    ensures { question_in result ≡ global_taken (said q) s.now }
+    ensures { question_in result ≡ global_taken q s.now }
 {
     let global = small_in(s)?;
-    let Some(Thing::Condition(key)) = q.thing else {
-        return None;
-    };
-    if !is_free(key.kind, key.carrier) {
+    if !is_free(q.key.kind, q.key.carrier) {
         return None;
     }
-    let named = Key {
+    let key = Key {
         global,
         carrier: 1,
-        ..key
+        ..q.key
     };
-    Some(Question {
-        thing: Some(Thing::Condition(named)),
-        ..q
-    })
+    Some(Question { key, ..q })
 }
 
 // What stands behind `upto=`.
 #[tactic(auto, unfolding(crate::specs::Questions::upto_taken))]
 fn take_upto(q: Question, s: &[u8]) -> Option<Question>
-    ensures { question_in result ≡ upto_taken (said q) s.now }
+    ensures { question_in result ≡ upto_taken q s.now }
 {
     let upto = number_in(s, u64::MAX)?;
-    if q.upto.is_some() {
+    if q.bounded {
         return None;
     }
     Some(Question {
-        upto: Some(upto),
+        upto,
+        bounded: true,
         ..q
     })
 }
 
 // A word behind the first two.
 fn take_option(q: Question, w: &[u8]) -> Option<Question>
-    ensures { question_in result ≡ option_taken (said q) w.now }
+    ensures { question_in result ≡ option_taken q w.now }
 {
     if let Some(s) = w.strip_prefix(b"if=") {
         return take_interface(q, s);
@@ -230,57 +255,61 @@ fn take_option(q: Question, w: &[u8]) -> Option<Question>
     None
 }
 
-// One word more.
+// What is asked with one word more.
 #[tactic(auto, using(crate::proofs::Reading::taken))]
-pub fn take_word(q: Option<Question>, w: &[u8]) -> Option<Question>
-    ensures { question_in result ≡ word_taken (question_in q) w.now }
+fn taken(q: Question, w: &[u8]) -> Option<Question>
+    requires { q.good ≡ true }
+    ensures { question_in result ≡ word_taken q w.now }
 {
-    let q = q?;
-    match (q.label, q.thing) {
-        (None, _) => take_label(q, w),
-        (Some(_), None) => take_thing(q, w),
-        (Some(_), Some(_)) => take_option(q, w),
+    match (q.labelled, q.kind) {
+        (false, _) => take_label(q, w),
+        (true, 0) => take_thing(q, w),
+        (true, _) => take_option(q, w),
     }
+}
+
+// One word more.
+#[tactic(auto, using(crate::proofs::Reading::word_kept))]
+pub fn take_word(q: Question, w: &[u8]) -> Question
+    ensures { result ≡ word_taken q w.now }
+{
+    if !q.good {
+        return q;
+    }
+    taken(q, w).unwrap_or(no_such())
 }
 
 // ---- a question
-// The words are one.
-pub fn is_asked(q: Option<Question>) -> bool
-    ensures { result ≡ is_asked (question_in q) }
+// The words are one: the first two were there, and each that came belongs there.
+pub fn is_asked(q: Question) -> bool
+    ensures { result ≡ is_asked q }
 {
-    match q {
-        Some(q) => q.thing.is_some(),
-        None => false,
-    }
+    q.good && q.kind > 0
 }
 
 // About which label.
-pub fn label_of(q: Option<Question>) -> u32
-    ensures { result ≡ (question_in q).label }
+pub fn label_of(q: Question) -> u32
+    ensures { result ≡ q.label }
 {
-    match q {
-        Some(q) => q.label.unwrap_or(0),
-        None => 0,
-    }
+    q.label
 }
 
 // What is asked about.
-#[tactic(auto, using(crate::proofs::Reading::thing_is), unfolding(crate::specs::Questions::thing_of))]
-pub fn thing_of(q: Option<Question>) -> Thing
-    ensures { result ≡ thing_of (question_in q) }
+#[tactic(auto, unfolding(crate::specs::Questions::thing_of))]
+pub fn thing_of(q: Question) -> Thing
+    ensures { result ≡ thing_of q }
 {
-    match q {
-        Some(q) => q.thing.unwrap_or(Thing::Condition(key_anew(0))),
-        None => Thing::Condition(key_anew(0)),
+    match q.kind {
+        1 => Thing::Crossing,
+        2 => Thing::Loss,
+        3 => Thing::HeldBack,
+        _ => Thing::Condition(q.key),
     }
 }
 
 // At the end of how many records; of all, as long as `upto=` does not say otherwise.
-pub fn upto_of(q: Option<Question>) -> u64
-    ensures { result ≡ (question_in q).upto }
+pub fn upto_of(q: Question) -> u64
+    ensures { result ≡ q.upto }
 {
-    match q {
-        Some(q) => q.upto.unwrap_or(u64::MAX),
-        None => 0,
-    }
+    q.upto
 }

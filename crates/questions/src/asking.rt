@@ -4,7 +4,7 @@ use inquiry::{Question, Search};
 use stored::put_text;
 
 // The words of a line, apart by one space.
-pub(crate) fn question_of(line: &[u8]) -> Option<Question> {
+pub(crate) fn question_of(line: &[u8]) -> Question {
     let mut q = inquiry::no_question();
     for word in line.split(|&b| b == b' ') {
         q = inquiry::take_word(q, word);
@@ -13,13 +13,7 @@ pub(crate) fn question_of(line: &[u8]) -> Option<Question> {
 }
 
 // Each piece is put behind the octets that are there.
-fn searched(
-    q: Option<Question>,
-    capture: &[u8],
-    size: usize,
-    buf: &mut [u8],
-    kept: &mut [u8],
-) -> Search {
+fn searched(q: Question, capture: &[u8], size: usize, buf: &mut [u8], kept: &mut [u8]) -> Search {
     let mut s = inquiry::start(inquiry::label_of(q), inquiry::upto_of(q));
     for piece in capture.chunks(size.max(1)) {
         put_text(&mut *buf, s.have, piece);
@@ -29,7 +23,7 @@ fn searched(
 }
 
 // The text that a question has for an answer; the usage line, where the words are no question.
-pub(crate) fn text_of(q: Option<Question>, capture: &[u8], size: usize, out: &mut [u8]) -> usize {
+pub(crate) fn text_of(q: Question, capture: &[u8], size: usize, out: &mut [u8]) -> usize {
     if !inquiry::is_asked(q) {
         return inquiry::put_usage(out, 0);
     }

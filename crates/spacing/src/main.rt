@@ -7,7 +7,6 @@ ghost use Rattle.std.specs.Prelude.{◌≡◌, false, ◌≤◌, length};
 ghost use Rattle.std.specs.Io.{ReadsAtMost};
 ghost use Rattle.capture.specs.Typing.{typed};
 ghost use Rattle.gauge.specs.Gauging.{text_of};
-ghost use Rattle.inquiry.specs.Questions.{question_in};
 ghost use Rattle.spacing.specs.Reads.{looking, AfterRead, OneRead, Reached};
 ghost use Rattle.spacing.specs.Labels.{is_label};
 
@@ -34,7 +33,7 @@ struct Looked {
 // ---- the label
 // All arguments behind the program's name, read as `why` reads its own. One that does not fit its buffer
 // is no word.
-fn words(rt: HostRuntime) -> Option<Question> {
+fn words(rt: HostRuntime) -> Question {
     let mut q = inquiry::no_question();
     let mut buf = [0u8; 64];
     for i in 1..arguments::count(rt) {
@@ -44,13 +43,10 @@ fn words(rt: HostRuntime) -> Option<Question> {
 }
 
 // A label, and nothing behind it.
-fn is_label(q: Option<Question>) -> bool
-    ensures { result ≡ is_label (question_in q) }
+fn is_label(q: Question) -> bool
+    ensures { result ≡ is_label q }
 {
-    match q {
-        Some(q) => q.label.is_some() && q.thing.is_none(),
-        None => false,
-    }
+    q.good && q.labelled && q.kind == 0
 }
 
 // ---- the capture

@@ -31,7 +31,7 @@ struct Looked {
 
 // ---- the question
 // All arguments behind the program's name. One that does not fit its buffer is no word of a question.
-fn words(rt: HostRuntime) -> Option<Question> {
+fn words(rt: HostRuntime) -> Question {
     let mut q = inquiry::no_question();
     let mut buf = [0u8; 64];
     for i in 1..arguments::count(rt) {
@@ -109,7 +109,7 @@ fn put_answer(out: &mut [u8], s: Search, buf: &[u8], kept: &[u8], thing: Thing) 
     inquiry::put_text(out, inquiry::ended(s), buf, kept, thing)
 }
 
-fn answer(rt: HostRuntime, q: Option<Question>) {
+fn answer(rt: HostRuntime, q: Question) {
     let mut buf = [0u8; 262_144];
     let mut kept = [0u8; 2_048];
     let mut out = [0u8; 1_024];
