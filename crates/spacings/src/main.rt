@@ -56,7 +56,7 @@ fn run_lines(
     what: &[u8],
 ) -> Option<()> {
     let mut lines = [0u8; 65_536];
-    let n = stored::read_named(rt, name, ending, &mut lines)?;
+    let n = stored::read_named(rt, name, ending, &mut lines).ok()?;
     let lines = &lines[..n];
     say(rt, name);
     if holds_all(rt, lines, capture) {
@@ -75,7 +75,7 @@ fn run_named(rt: HostRuntime, i: usize) {
     let mut name = [0u8; 4_096];
     let name = arguments::word(rt, i, &mut name);
     let mut capture = [0u8; 65_536];
-    let Some(size) = stored::read_named(rt, name, b".capture", &mut capture) else {
+    let Ok(size) = stored::read_named(rt, name, b".capture", &mut capture) else {
         say_unread(rt, name);
         return;
     };

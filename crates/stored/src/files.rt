@@ -1,5 +1,5 @@
 // Files by name and ending.
-ghost use Rattle.std.specs.Prelude.{◌≤◌, IfSome, length};
+ghost use Rattle.std.specs.Prelude.{◌≤◌, IfSome, MatchResult, length};
 ghost use Rattle.std.specs.Counts.{IsPrefixLen};
 
 use crate::texts::put_text;
@@ -27,17 +27,28 @@ pub fn read_full<R: Read>(from: &mut R, into: &mut [u8]) -> usize
     done
 }
 
-// How many octets a file has, which is named by a name and an ending behind it. None: it is not there, or
-// is not shorter than the buffer.
-pub fn read_named(rt: HostRuntime, name: &[u8], ending: &[u8], into: &mut [u8]) -> Option<usize>
-    ensures { IfSome result (λ n. IsPrefixLen n into.new) }
+// How many octets a file has, which is named by a name and an ending behind it. Of a file that is not
+// there, or is not shorter than the buffer, the error is how many of its octets stand at the front.
+pub fn read_named(
+    rt: HostRuntime,
+    name: &[u8],
+    ending: &[u8],
+    into: &mut [u8],
+) -> Result<usize, usize>
+    ensures { MatchResult result (λ n. IsPrefixLen n into.new) (λ n. IsPrefixLen n into.new) }
 {
     let mut path = [0u8; 4_096];
     let n = put_text(&mut path, 0, name);
     let end = put_text(&mut path, n, ending);
-    let mut file = arguments::opened(rt, &path[..end])?;
+    let Some(mut file) = arguments::opened(rt, &path[..end]) else {
+        return Err(0);
+    };
     let size = read_full(&mut file, &mut *into);
-    (size < into.len()).then_some(size)
+    if size < into.len() {
+        Ok(size)
+    } else {
+        Err(size)
+    }
 }
 
 // The octets of a file, which is named by a name and an ending behind it. That it cannot be read is said.
@@ -50,8 +61,8 @@ pub fn named<'a>(
     ensures { IfSome result (λ file. length file.now ≤ length into.old) }
 {
     match read_named(rt, name, ending, &mut *into) {
-        Some(n) => Some(&into[..n]),
-        None => {
+        Ok(n) => Some(&into[..n]),
+        Err(_) => {
             crate::say_unread(rt);
             None
         }
