@@ -8,3 +8,4 @@ pub mod Goes
 pub mod Entire
 pub mod Stretches
 pub mod Together
+pub mod Stages
